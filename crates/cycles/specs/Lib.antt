@@ -1,0 +1,5 @@
+-- The definitions that the contracts cite.
+pub mod Code
+pub mod Plays
+pub mod Rows
+pub mod Says
