@@ -1,1 +1,4 @@
 pub mod Cases
+pub mod Unique
+pub mod Fronts
+pub mod Limits

@@ -3,3 +3,4 @@ pub mod Code
 pub mod Plays
 pub mod Rows
 pub mod Says
+pub mod Reading

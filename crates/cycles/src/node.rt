@@ -1,0 +1,39 @@
+ghost use Rattle.cycles.specs.Reading.{Begins};
+use crate::fault::Rule;
+
+// What a program begins with: one node, with what it holds itself.
+#[derive(Clone, Copy)]
+pub enum Node<'a> {
+    Work(u32),
+    Touch { base: u32, steps: &'a [u32] },
+    Seq,
+    Either,
+    Loop(u32),
+    Skip,
+}
+
+// The node whose words stand first.
+pub fn first_node(words: &[u32]) -> Result<Node<'_>, Rule>
+    ensures { λ r. ⌜ Begins (now (words .entry)) r ⌝ }
+{
+    match words {
+        [] => Err(Rule::NodeMissing),
+        [0, cycles, ..] => Ok(Node::Work(*cycles)),
+        [0] => Err(Rule::WorkCut),
+        [1, base, count, rest @ ..] => {
+            let count = *count as usize;
+            if count > rest.len() {
+                return Err(Rule::TouchCut);
+            }
+            let steps = &rest[0..count];
+            Ok(Node::Touch { base: *base, steps })
+        }
+        [1, ..] => Err(Rule::TouchCut),
+        [2, ..] => Ok(Node::Seq),
+        [3, ..] => Ok(Node::Either),
+        [4, rounds, ..] => Ok(Node::Loop(*rounds)),
+        [4] => Err(Rule::LoopCut),
+        [5, ..] => Ok(Node::Skip),
+        [tag, ..] => Err(Rule::UnknownNode(*tag)),
+    }
+}

@@ -1,0 +1,107 @@
+ghost use mathlib.Core.Bool.{true, false};
+ghost use mathlib.Core.Path.{_≡_};
+ghost use Prim.Native.Nat.{ℕ, _<_, _≤_};
+ghost use lib.ListN.{length, getD};
+ghost use Rattle.std.specs.Options.{Cases as BySome};
+ghost use Rattle.cycles.specs.declared.fault.Rule.the-variants.{Depth};
+ghost use Rattle.cycles.specs.declared.node.Node.the-variants.{Touch};
+ghost use Rattle.cycles.specs.Reading.{Judges, ReadPost, Scans, Shapes, Stands};
+ghost use Rattle.cycles.specs.Rows.{small};
+use crate::fault::Fault;
+use crate::fault::Rule;
+use crate::geometry::Geometry;
+use crate::geometry::Policy;
+use crate::load::Load;
+use crate::load::TOO_MUCH;
+use crate::node::Node;
+use crate::node::first_node;
+
+// Cycles, bases and steps are below it.
+const LIMIT: u32 = 65536;
+
+const MOST_ROUNDS: u32 = 4096;
+
+const MOST_LOOPS: u32 = 8;
+
+const MOST_DEEP: u32 = 200;
+
+// Where the words of a program end, and how much it does.
+#[derive(Clone, Copy)]
+struct Extent {
+    end: usize,
+    load: Load,
+}
+
+// The index of the first step that is too large.
+fn large_step(steps: &[u32]) -> Option<usize>
+    ensures { λ r. ⌜ BySome r (small (now (steps .entry)) ≡ true) (λ i. (small (now (steps .entry)) ≡ false) × (i < length (now (steps .entry))) × (65536 ≤ getD (now (steps .entry)) i 0)) ⌝ }
+{
+    for (i, step) in steps.iter().enumerate() {
+        if *step >= LIMIT {
+            return Some(i);
+        }
+    }
+    None
+}
+
+// The rule that a node breaks that stands too deep.
+fn broken_depth(depth: u32) -> Option<Fault>
+    ensures { λ r. ⌜ BySome r (depth < 200) (λ f. (200 ≤ depth) × (f .place ≡ 0) × (f .rule ≡ Depth)) ⌝ }
+{
+    if depth < MOST_DEEP {
+        return None;
+    }
+    let rule = Rule::Depth;
+    Some(Fault { place: 0, rule })
+}
+
+// The rule that a touch breaks, with its place counted from the touch's first word.
+fn broken_touch(base: u32, steps: &[u32], loops: u32) -> Option<Fault>
+    ensures { λ r. ⌜ ((depth : ℕ) → Judges loops depth (Touch base (steps .entry)) r) ⌝ }
+{
+    if base >= LIMIT {
+        let rule = Rule::Base(base);
+        return Some(Fault { place: 1, rule });
+    }
+    if steps.len() > loops as usize {
+        let rule = Rule::Steps(steps.len(), loops);
+        return Some(Fault { place: 2, rule });
+    }
+    match large_step(steps) {
+        None => None,
+        Some(i) => {
+            let rule = Rule::Step(steps[i]);
+            Some(Fault { place: 3 + i, rule })
+        }
+    }
+}
+
+// The rule that a node breaks under so many loops and so deep, with its place counted from the node's first word.
+fn broken_limit(node: Node<'_>, loops: u32, depth: u32) -> Option<Fault>
+    ensures { λ r. ⌜ Judges loops depth (node .entry) r ⌝ }
+{
+    match node {
+        Node::Work(cycles) => {
+            if cycles < LIMIT {
+                return None;
+            }
+            let rule = Rule::Cycles(cycles);
+            Some(Fault { place: 1, rule })
+        }
+        Node::Touch { base, steps } => broken_touch(base, steps, loops),
+        Node::Seq => broken_depth(depth),
+        Node::Either => broken_depth(depth),
+        Node::Loop(rounds) => {
+            if rounds > MOST_ROUNDS {
+                let rule = Rule::Rounds(rounds);
+                return Some(Fault { place: 1, rule });
+            }
+            if loops >= MOST_LOOPS {
+                let rule = Rule::Loops;
+                return Some(Fault { place: 0, rule });
+            }
+            broken_depth(depth)
+        }
+        Node::Skip => None,
+    }
+}
