@@ -2,3 +2,4 @@ pub mod Cases
 pub mod Unique
 pub mod Fronts
 pub mod Limits
+pub mod Along

@@ -73,21 +73,21 @@ pub begins-as : (ws : List ℕ) {node n : Node} → node ≡ n → Begins ws (Ok
 begins-as ws e b = subst (λ v. Begins ws (Ok v)) e b
 
 -- a node that may stand too deep
-by-depth : (l d : ℕ) (node : Node) (r : Option Fault) → (d < 200 → Keeps l d node) → ((ws : List ℕ) → Begins ws (Ok node) → (2 ≤ getD ws 0 0) × (getD ws 0 0 ≤ 4) × (200 ≤ d → None-begins ws l d)) → BySome r (d < 200) (λ f. (200 ≤ d) × (f .place ≡ 0) × (f .rule ≡ Depth)) → Judges l d node r
+by-depth : (l d : ℕ) (node : Node) (r : Option Fault) → (d < 200 → Keeps l d node) → ((ws : List ℕ) → Begins ws (Ok node) → (2 ≤ getD ws 0 0) × (getD ws 0 0 ≤ 4) × (200 ≤ d → None-begins ws l d) × (0 < length ws)) → BySome r (d < 200) (λ f. (200 ≤ d) × (f .place ≡ 0) × (f .rule ≡ Depth)) → Judges l d node r
 by-depth l d node None keeps none h = keeps h
 by-depth l d node (Some f) keeps none h = λ us ws b.
     let n = none ws b in
     let w : getD (us ++ ws) (length us + 0) 0 ≡ getD ws 0 0 = getD-append-add us ws 0 0 in
     let at : Breaks (us ++ ws) (length us + 0) Depth = (omega arith, omega arith) in
-    (subst (λ k. Breaks (us ++ ws) (length us + k) (f .rule)) (sym (h .1)) (subst (λ e. Breaks (us ++ ws) (length us + 0) e) (sym (h .2)) at), n .2 (h .0))
+    (subst (λ k. Breaks (us ++ ws) (length us + k) (f .rule)) (sym (h .1)) (subst (λ e. Breaks (us ++ ws) (length us + 0) e) (sym (h .2)) at), n .2 (h .0), omega (arith, n .3, h .1))
 
 module _ (l d : ℕ) (r : Option Fault) (h : BySome r (d < 200) (λ f. (200 ≤ d) × (f .place ≡ 0) × (f .rule ≡ Depth))) where
   pub judge-seq : Judges l d Seq r
-  judge-seq = by-depth l d Seq r (λ k. k) (λ ws b. (omega (arith, ap (λ xs. getD xs 0 0) b), omega (arith, ap (λ xs. getD xs 0 0) b), seq-too-deep ws l d b)) h
+  judge-seq = by-depth l d Seq r (λ k. k) (λ ws b. (omega (arith, ap (λ xs. getD xs 0 0) b), omega (arith, ap (λ xs. getD xs 0 0) b), seq-too-deep ws l d b, omega (arith, ap length b))) h
 
   pub judge-either : Judges l d Either r
-  judge-either = by-depth l d Either r (λ k. k) (λ ws b. (omega (arith, ap (λ xs. getD xs 0 0) b), omega (arith, ap (λ xs. getD xs 0 0) b), either-too-deep ws l d b)) h
+  judge-either = by-depth l d Either r (λ k. k) (λ ws b. (omega (arith, ap (λ xs. getD xs 0 0) b), omega (arith, ap (λ xs. getD xs 0 0) b), either-too-deep ws l d b, omega (arith, ap length b))) h
 
   pub judge-loop : (n : ℕ) → n ≤ 4096 → l < 8 → Judges l d (Loop n) r
   judge-loop n a b =
-      by-depth l d (Loop n) r (λ k. (a, b, k)) (λ ws e. (omega (arith, ap (λ xs. getD xs 0 0) e), omega (arith, ap (λ xs. getD xs 0 0) e), λ k p rest f o s. let x = loop-keeps ws l d n e p rest f o s in omega arith)) h
+      by-depth l d (Loop n) r (λ k. (a, b, k)) (λ ws e. (omega (arith, ap (λ xs. getD xs 0 0) e), omega (arith, ap (λ xs. getD xs 0 0) e), (λ k p rest f o s. let x = loop-keeps ws l d n e p rest f o s in omega arith), omega (arith, ap length e))) h

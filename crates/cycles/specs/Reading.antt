@@ -73,7 +73,7 @@ Keeps loops depth Skip = Unit {0}
 -- whether a node keeps the limits; where not, the fault's place is counted from the node's first word, whatever words us stand before it
 abbrev pub Judges : ℕ → ℕ → Node → Option Fault → Type 0
 Judges loops depth node None = Keeps loops depth node
-Judges loops depth node (Some f) = (us ws : List ℕ) → Begins ws (Ok node) → Breaks (us ++ ws) (length us + f .place) (f .rule) × None-begins ws loops depth
+Judges loops depth node (Some f) = (us ws : List ℕ) → Begins ws (Ok node) → Breaks (us ++ ws) (length us + f .place) (f .rule) × None-begins ws loops depth × (f .place < length ws)
 
 -- the node at a place, within the limits
 abbrev pub Stands : List ℕ → ℕ → ℕ → ℕ → Result Node Fault → Type 0
@@ -92,7 +92,7 @@ pub record Spans (ws : List ℕ) (loops depth at end much : ℕ) : Type 0 where
 
 -- what is told of the program that begins at a place
 abbrev pub Scans : List ℕ → ℕ → ℕ → ℕ → Result Extent Fault → Type 0
-Scans ws loops depth at (Ok e) = Spans ws loops depth at (e .end) (e .load .amount) × (e .load .place < length ws)
+Scans ws loops depth at (Ok e) = Spans ws loops depth at (e .end) (e .load .amount) × (e .load .place < e .end)
 Scans ws loops depth at (Err f) = Breaks ws (f .place) (f .rule) × None-begins (drop at ws) loops depth
 
 -- the cache that a geometry stands for

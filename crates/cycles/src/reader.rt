@@ -105,3 +105,68 @@ fn broken_limit(node: Node<'_>, loops: u32, depth: u32) -> Option<Fault>
         Node::Skip => None,
     }
 }
+
+// The node that stands at a place, within the limits.
+fn node_at(words: &[u32], at: usize, loops: u32, depth: u32) -> Result<Node<'_>, Fault>
+    requires { ⌜ at ≤ length (now words) ⌝ }
+    ensures { λ r. ⌜ Stands (now (words .entry)) at loops depth r ⌝ }
+{
+    match first_node(&words[at..]) {
+        Err(rule) => Err(Fault { place: at, rule }),
+        Ok(node) => match broken_limit(node, loops, depth) {
+            None => Ok(node),
+            Some(fault) => {
+                let rule = fault.rule;
+                let place = at + fault.place;
+                Err(Fault { place, rule })
+            }
+        },
+    }
+}
+
+// The program that begins at a place; the second of two is gone on to in the loop, so only the depth takes stack.
+fn scan(words: &[u32], start: usize, loops: u32, depth: u32) -> Result<Extent, Fault>
+    requires within { ⌜ start ≤ length (now words) ⌝ }
+    requires shallow { ⌜ depth ≤ 200 ⌝ }
+    ensures { λ r. ⌜ Scans (now (words .entry)) loops depth start r ⌝ }
+{
+    let mut at = start;
+    let mut load = Load::of(0, start);
+    loop {
+        match node_at(words, at, loops, depth)? {
+            Node::Work(_) => {
+                let end = at + 2;
+                let load = load.then(Load::of(1, at));
+                return Ok(Extent { end, load });
+            }
+            Node::Touch { steps, .. } => {
+                let end = at + 3 + steps.len();
+                let load = load.then(Load::of(1, at));
+                return Ok(Extent { end, load });
+            }
+            Node::Seq => {
+                let first = scan(words, at + 1, loops, depth + 1)?;
+                at = first.end;
+                load = load.then(first.load);
+            }
+            Node::Either => {
+                let first = scan(words, at + 1, loops, depth + 1)?;
+                let second = scan(words, first.end, loops, depth + 1)?;
+                let larger = first.load.or(second.load);
+                let end = second.end;
+                let load = load.then(Load::of(1, at).then(larger));
+                return Ok(Extent { end, load });
+            }
+            Node::Loop(rounds) => {
+                let body = scan(words, at + 2, loops + 1, depth + 1)?;
+                let end = body.end;
+                let load = load.then(Load::of(1, at).then(body.load.repeated(rounds, at)));
+                return Ok(Extent { end, load });
+            }
+            Node::Skip => {
+                let end = at + 1;
+                return Ok(Extent { end, load });
+            }
+        }
+    }
+}
