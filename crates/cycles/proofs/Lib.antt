@@ -3,3 +3,4 @@ pub mod Unique
 pub mod Fronts
 pub mod Limits
 pub mod Along
+pub mod Whole

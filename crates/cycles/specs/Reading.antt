@@ -103,6 +103,21 @@ is-lru Fifo = false
 abbrev pub cache : Geometry → Cache
 cache g = record { sets = g .sets; ways = g .ways; line = g .line; hit = g .hit; miss = g .miss; used = is-lru (g .policy) }
 
+-- the words of a cache keep the limits
+pub record KeepsCache (ws : List ℕ) : Type 0 where
+  pub six : 6 ≤ length ws
+  pub sets : (1 ≤ getD ws 0 0) × (getD ws 0 0 ≤ 64)
+  pub ways : (1 ≤ getD ws 1 0) × (getD ws 1 0 ≤ 8)
+  pub line : (1 ≤ getD ws 2 0) × (getD ws 2 0 ≤ 64)
+  pub hit : getD ws 3 0 ≤ getD ws 4 0
+  pub miss : getD ws 4 0 < 65536
+  pub policy : getD ws 5 0 ≤ 1
+
+-- whether the words begin with a cache within the limits
+abbrev pub JudgesCache : List ℕ → Option Fault → Type 0
+JudgesCache ws None = KeepsCache ws
+JudgesCache ws (Some f) = Breaks ws (f .place) (f .rule) × (KeepsCache ws → ⊥)
+
 -- the cache whose six words stand first
 abbrev pub Shapes : List ℕ → Result Geometry Fault → Type 0
 Shapes ws (Ok g) = (ws ≡ row-c (cache g) ++ drop 6 ws) × (okC (cache g) ≡ true)

@@ -5,7 +5,7 @@ ghost use lib.ListN.{length, getD};
 ghost use Rattle.std.specs.Options.{Cases as BySome};
 ghost use Rattle.cycles.specs.declared.fault.Rule.the-variants.{Depth};
 ghost use Rattle.cycles.specs.declared.node.Node.the-variants.{Touch};
-ghost use Rattle.cycles.specs.Reading.{Judges, ReadPost, Scans, Shapes, Stands};
+ghost use Rattle.cycles.specs.Reading.{Judges, JudgesCache, ReadPost, Scans, Shapes, Stands};
 ghost use Rattle.cycles.specs.Rows.{small};
 use crate::fault::Fault;
 use crate::fault::Rule;
@@ -15,6 +15,14 @@ use crate::load::Load;
 use crate::load::TOO_MUCH;
 use crate::node::Node;
 use crate::node::first_node;
+
+const CACHE_WORDS: usize = 6;
+
+const MOST_SETS: u32 = 64;
+
+const MOST_WAYS: u32 = 8;
+
+const MOST_LINE: u32 = 64;
 
 // Cycles, bases and steps are below it.
 const LIMIT: u32 = 65536;
@@ -169,4 +177,75 @@ fn scan(words: &[u32], start: usize, loops: u32, depth: u32) -> Result<Extent, F
             }
         }
     }
+}
+
+// The rule that the six words of a cache break.
+fn broken_cache(words: &[u32]) -> Option<Fault>
+    ensures { λ r. ⌜ JudgesCache (now (words .entry)) r ⌝ }
+{
+    let [sets, ways, line, hit, miss, policy, ..] = words else {
+        let place = words.len();
+        let rule = if place == 0 { Rule::Empty } else { Rule::CacheCut };
+        return Some(Fault { place, rule });
+    };
+    if *sets < 1 || *sets > MOST_SETS {
+        let rule = Rule::Sets(*sets);
+        return Some(Fault { place: 0, rule });
+    }
+    if *ways < 1 || *ways > MOST_WAYS {
+        let rule = Rule::Ways(*ways);
+        return Some(Fault { place: 1, rule });
+    }
+    if *line < 1 || *line > MOST_LINE {
+        let rule = Rule::LineWords(*line);
+        return Some(Fault { place: 2, rule });
+    }
+    if *miss >= LIMIT {
+        let rule = Rule::MissCycles(*miss);
+        return Some(Fault { place: 4, rule });
+    }
+    if *hit > *miss {
+        let rule = Rule::HitAboveMiss(*hit, *miss);
+        return Some(Fault { place: 4, rule });
+    }
+    if *policy > 1 {
+        let rule = Rule::PolicyWord(*policy);
+        return Some(Fault { place: 5, rule });
+    }
+    None
+}
+
+// The cache whose six words stand first.
+fn read_geometry(words: &[u32]) -> Result<Geometry, Fault>
+    ensures { λ r. ⌜ Shapes (now (words .entry)) r ⌝ }
+{
+    if let Some(fault) = broken_cache(words) {
+        return Err(fault);
+    }
+    let policy = if words[5] == 1 { Policy::Lru } else { Policy::Fifo };
+    Ok(Geometry {
+        sets: words[0],
+        ways: words[1],
+        line: words[2],
+        hit: words[3],
+        miss: words[4],
+        policy,
+    })
+}
+
+// The cache that the words begin with, if behind it stands a program that ends with them; else the first rule that is found broken.
+pub fn read(words: &[u32]) -> Result<Geometry, Fault>
+    ensures { λ r. ⌜ ReadPost (now (words .entry)) r ⌝ }
+{
+    let geometry = read_geometry(words)?;
+    let program = scan(words, CACHE_WORDS, 0, 0)?;
+    if program.end < words.len() {
+        let rule = Rule::LeftOver;
+        return Err(Fault { place: program.end, rule });
+    }
+    if program.load.amount >= TOO_MUCH {
+        let rule = Rule::Amount;
+        return Err(Fault { place: program.load.place, rule });
+    }
+    Ok(geometry)
 }
