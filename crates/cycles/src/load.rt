@@ -29,7 +29,11 @@ impl Load {
         ensures amount { λ r. ⌜ r .amount ≡ min 4294967297 (self .amount + next .amount) ⌝ }
         ensures place { λ r. ⌜ (r .place ≡ self .place) ⊎ (r .place ≡ next .place) ⌝ }
     {
-        let place = if self.amount < TOO_MUCH { next.place } else { self.place };
+        let place = if self.amount < TOO_MUCH {
+            next.place
+        } else {
+            self.place
+        };
         Load {
             amount: TOO_MUCH.min(self.amount + next.amount),
             place,
@@ -41,7 +45,11 @@ impl Load {
         ensures amount { λ r. ⌜ r .amount ≡ max (self .amount) (other .amount) ⌝ }
         ensures place { λ r. ⌜ (r .place ≡ self .place) ⊎ (r .place ≡ other .place) ⌝ }
     {
-        if self.amount < other.amount { other } else { self }
+        if self.amount < other.amount {
+            other
+        } else {
+            self
+        }
     }
 
     // So many rounds of a part, in a loop that stands at a place.
@@ -50,7 +58,11 @@ impl Load {
         ensures amount { λ r. ⌜ r .amount ≡ min 4294967297 (rounds * self .amount) ⌝ }
         ensures place { λ r. ⌜ (r .place ≡ self .place) ⊎ (r .place ≡ place) ⌝ }
     {
-        let place = if self.amount < TOO_MUCH { place } else { self.place };
+        let place = if self.amount < TOO_MUCH {
+            place
+        } else {
+            self.place
+        };
         Load {
             amount: TOO_MUCH.min(rounds as u64 * self.amount),
             place,

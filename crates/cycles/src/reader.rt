@@ -185,7 +185,11 @@ fn broken_cache(words: &[u32]) -> Option<Fault>
 {
     let [sets, ways, line, hit, miss, policy, ..] = words else {
         let place = words.len();
-        let rule = if place == 0 { Rule::Empty } else { Rule::CacheCut };
+        let rule = if place == 0 {
+            Rule::Empty
+        } else {
+            Rule::CacheCut
+        };
         return Some(Fault { place, rule });
     };
     if *sets < 1 || *sets > MOST_SETS {
@@ -222,7 +226,11 @@ fn read_geometry(words: &[u32]) -> Result<Geometry, Fault>
     if let Some(fault) = broken_cache(words) {
         return Err(fault);
     }
-    let policy = if words[5] == 1 { Policy::Lru } else { Policy::Fifo };
+    let policy = if words[5] == 1 {
+        Policy::Lru
+    } else {
+        Policy::Fifo
+    };
     Ok(Geometry {
         sets: words[0],
         ways: words[1],
@@ -241,11 +249,17 @@ pub fn read(words: &[u32]) -> Result<Geometry, Fault>
     let program = scan(words, CACHE_WORDS, 0, 0)?;
     if program.end < words.len() {
         let rule = Rule::LeftOver;
-        return Err(Fault { place: program.end, rule });
+        return Err(Fault {
+            place: program.end,
+            rule,
+        });
     }
     if program.load.amount >= TOO_MUCH {
         let rule = Rule::Amount;
-        return Err(Fault { place: program.load.place, rule });
+        return Err(Fault {
+            place: program.load.place,
+            rule,
+        });
     }
     Ok(geometry)
 }
