@@ -57,6 +57,15 @@ Begins ws (Ok (Loop n)) = ws ≡ 4 ∷ n ∷ drop 2 ws
 Begins ws (Ok Skip) = ws ≡ 5 ∷ drop 1 ws
 Begins ws (Err e) = ((us : List ℕ) → Breaks (us ++ ws) (length us) e) × ((p : P) (rest : List ℕ) → ws ≡ row p ++ rest → ⊥)
 
+-- how many words a node takes itself, without the programs that it holds
+abbrev pub size-of : Node → ℕ
+size-of (Work n) = 2
+size-of (Touch b ks) = 3 + length (ks .now)
+size-of Seq = 1
+size-of Either = 1
+size-of (Loop n) = 2
+size-of Skip = 1
+
 -- no program's words begin the words ws, under so many loops and so deep
 abbrev pub None-begins : List ℕ → ℕ → ℕ → Type 0
 None-begins ws loops depth = (p : P) (rest : List ℕ) → ws ≡ row p ++ rest → ok loops 0 p ≡ true → depth + deep p ≤ 200 → ⊥

@@ -1,4 +1,5 @@
-ghost use Rattle.cycles.specs.Reading.{Begins};
+ghost use mathlib.Core.Path.{_≡_};
+ghost use Rattle.cycles.specs.Reading.{Begins, size-of};
 use crate::fault::Rule;
 
 // What a program begins with: one node, with what it holds itself.
@@ -10,6 +11,22 @@ pub enum Node<'a> {
     Either,
     Loop(u32),
     Skip,
+}
+
+impl Node<'_> {
+    // How many words the node itself takes, without the programs that it holds.
+    pub fn size(self) -> usize
+        ensures { λ r. ⌜ r ≡ size-of (self .entry) ⌝ }
+    {
+        match self {
+            Node::Work(_) => 2,
+            Node::Touch { steps, .. } => 3 + steps.len(),
+            Node::Seq => 1,
+            Node::Either => 1,
+            Node::Loop(_) => 2,
+            Node::Skip => 1,
+        }
+    }
 }
 
 // The node whose words stand first.

@@ -1,0 +1,9 @@
+// What the programs share: reading a listing, saying what is wrong, and showing a program.
+pub mod failure;
+pub mod outline;
+pub mod source;
+
+pub use failure::Failure;
+pub use failure::FailureDisplay;
+pub use source::Program;
+pub use source::Source;

@@ -1,0 +1,134 @@
+ghost use Rattle.console.specs.Loaded.{Told};
+ghost use Rattle.listing.specs.Text.{shown};
+use crate::failure::Failure;
+use crate::failure::FailureFromAlloc;
+use cycles::geometry::Geometry;
+use cycles::reader::read;
+use listing::Flaw;
+use listing::Listing;
+use std::fs;
+use std::io;
+use std::io::Read;
+
+// The room for words, for their lines, and for a piece of the text: together 4 MiB.
+const MOST_WORDS: usize = 1000448;
+
+const MOST_MARKS: usize = 1507328;
+
+const PIECE: usize = 4096;
+
+// Why a text was not read to its end.
+#[derive(Clone, Copy)]
+enum Stop {
+    Input(io::Error),
+    Text(Flaw),
+}
+
+impl From<io::Error> for Stop as StopFromInput {
+    fn from(e: io::Error) -> Stop {
+        Stop::Input(e)
+    }
+}
+
+impl From<Flaw> for Stop as StopFromFlaw {
+    fn from(e: Flaw) -> Stop {
+        Stop::Text(e)
+    }
+}
+
+// Reads a text to its end, a piece at a time.
+fn read_text<R: Read + Drop>(mut from: R, listing: &mut Listing) -> Result<(), Stop> {
+    let mut piece = [0u8; PIECE];
+    for _ in 0..u64::MAX {
+        let n = from.read(&mut piece)?;
+        if n == 0 {
+            break;
+        }
+        listing.feed(&piece[0..n])?;
+    }
+    listing.finish();
+    Ok(())
+}
+
+// A program that was read, with its cache.
+#[derive(Drop)]
+pub struct Program {
+    pub cache: Geometry,
+    words: Vec<u32>,
+}
+
+impl Program {
+    // The program's own words, behind the six of the cache.
+    pub fn code(&self) -> &[u32] {
+        self.words.as_slice().get(6..).unwrap_or(&[])
+    }
+}
+
+// The words of a file or of standard input, and where they come from.
+#[derive(Drop)]
+pub struct Source {
+    name: String,
+    listing: Listing,
+}
+
+impl Source {
+    pub fn from_stdin(rt: &LibcRuntime) -> Result<Source, Failure> {
+        let mut listing = Listing::new(rt.alloc(), MOST_WORDS, MOST_MARKS)?;
+        let end = read_text(rt.stdin(), &mut listing);
+        let name = String::from_str(rt.alloc(), "standard input")?;
+        Source::ended(name, listing, end)
+    }
+
+    pub fn from_file(rt: &LibcRuntime, path: String) -> Result<Source, Failure> {
+        let mut listing = Listing::new(rt.alloc(), MOST_WORDS, MOST_MARKS)?;
+        let end = match fs::open(rt, path.as_str()) {
+            Err(error) => Err(Stop::Input(error)),
+            Ok(file) => read_text(file, &mut listing),
+        };
+        Source::ended(path, listing, end)
+    }
+
+    fn ended(name: String, listing: Listing, end: Result<(), Stop>) -> Result<Source, Failure> {
+        match end {
+            Ok(()) => Ok(Source { name, listing }),
+            Err(Stop::Input(error)) => Err(Failure::File(name, error)),
+            Err(Stop::Text(flaw)) => {
+                let line = listing.line();
+                let word = listing.words().len().saturating_add(1);
+                Err(Failure::Text {
+                    file: name,
+                    line,
+                    word,
+                    flaw,
+                })
+            }
+        }
+    }
+
+    // The program that the words are; else where and how they are none.
+    pub fn read(self) -> Result<Program, Failure>
+        ensures { λ r. ⌜ Told (shown (self .listing) .words) r ⌝ }
+    {
+        let Source { name, listing } = self;
+        match read(listing.words()) {
+            Ok(cache) => {
+                let words = listing.into_words();
+                Ok(Program { cache, words })
+            }
+            Err(fault) => {
+                let line = match listing.line_of(fault.place) {
+                    Some(line) => line,
+                    None => listing.line(),
+                };
+                let word = fault.place.saturating_add(1);
+                let rule = fault.rule;
+                Err(Failure::Words {
+                    file: name,
+                    line,
+                    word,
+                    rule,
+                })
+            }
+        }
+    }
+}
