@@ -31,7 +31,10 @@ pub fn write_cache<W: Write>(out: &mut W, cache: Geometry) -> io::Result<()> {
         Policy::Lru => "lru",
         Policy::Fifo => "fifo",
     };
-    writeln!(out, "cache sets {sets} ways {ways} line {line} hit {hit} miss {miss} {policy}")
+    writeln!(
+        out,
+        "cache sets {sets} ways {ways} line {line} hit {hit} miss {miss} {policy}"
+    )
 }
 
 fn write_line<W: Write>(out: &mut W, depth: usize, text: &str) -> io::Result<()> {

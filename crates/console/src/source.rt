@@ -1,3 +1,6 @@
+ghost use mathlib.Core.Path.{_≡_};
+ghost use lib.ListN.{drop};
+ghost use Rattle.std.specs.Of.Vec.{vec-items};
 ghost use Rattle.console.specs.Loaded.{Told};
 ghost use Rattle.listing.specs.Text.{shown};
 use crate::failure::Failure;
@@ -6,6 +9,7 @@ use cycles::geometry::Geometry;
 use cycles::reader::read;
 use listing::Flaw;
 use listing::Listing;
+use std::alloc::Global;
 use std::fs;
 use std::io;
 use std::io::Read;
@@ -59,8 +63,11 @@ pub struct Program {
 
 impl Program {
     // The program's own words, behind the six of the cache.
-    pub fn code(&self) -> &[u32] {
-        self.words.as_slice().get(6..).unwrap_or(&[])
+    pub fn code(&self) -> &[u32]
+        ensures { λ r. ⌜ now r ≡ drop 6 (vec-items (now (self .entry) .words)) ⌝ }
+    {
+        let words = self.words.as_slice();
+        if words.len() < 6 { &[] } else { &words[6..] }
     }
 }
 
@@ -88,6 +95,13 @@ impl Source {
         Source::ended(path, listing, end)
     }
 
+    // A text that is there already, under a name for messages.
+    pub fn from_text(heap: Global, name: &str, text: &[u8]) -> Result<Source, Failure> {
+        let mut listing = Listing::new(heap, MOST_WORDS, MOST_MARKS)?;
+        let end = read_text(text, &mut listing);
+        Source::ended(String::from_str(heap, name)?, listing, end)
+    }
+
     fn ended(name: String, listing: Listing, end: Result<(), Stop>) -> Result<Source, Failure> {
         match end {
             Ok(()) => Ok(Source { name, listing }),
@@ -107,7 +121,7 @@ impl Source {
 
     // The program that the words are; else where and how they are none.
     pub fn read(self) -> Result<Program, Failure>
-        ensures { λ r. ⌜ Told (shown (self .listing) .words) r ⌝ }
+        ensures { λ r. ⌜ Told (shown (self .listing)) r ⌝ }
     {
         let Source { name, listing } = self;
         match read(listing.words()) {

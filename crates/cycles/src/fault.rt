@@ -55,7 +55,7 @@ pub impl fmt::Display for Rule as RuleDisplay {
             Rule::UnknownNode(n) => write!(f, "{n} begins no node: a node begins with 0 to 5"),
             Rule::Cycles(n) => write!(f, "work of {n} cycles, where at most 65535 are allowed"),
             Rule::Base(n) => write!(f, "base {n}, where at most 65535 is allowed"),
-            Rule::Steps(n, loops) => write!(f, "{n} steps, more than the {loops} loops around"),
+            Rule::Steps(n, loops) => write!(f, "more steps ({n}) than loops around ({loops})"),
             Rule::Step(n) => write!(f, "step {n}, where at most 65535 is allowed"),
             Rule::Rounds(n) => write!(f, "{n} rounds, where at most 4096 are allowed"),
             Rule::Loops => f.write_str("a ninth loop around, where at most 8 are allowed"),

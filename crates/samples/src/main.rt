@@ -1,0 +1,56 @@
+// For the gate: shows each file that is named, and says of each line of standard input, a listing of its own, what it is.
+use console::Failure;
+use console::FailureDisplay;
+use console::Source;
+use console::failure::FailureFromAlloc;
+use console::failure::FailureFromOutput;
+use console::outline::write_cache;
+use console::outline::write_program;
+use std::env;
+use std::io::BufWriter;
+use std::io::Write;
+
+fn show_file(rt: &LibcRuntime, path: String) -> Result<(), Failure> {
+    println!(rt, "== {path}")?;
+    let program = Source::from_file(rt, path)?.read()?;
+    let mut out = BufWriter::new(rt.stdout());
+    write_cache(&mut out, program.cache)?;
+    write_program(&mut out, rt.alloc(), program.code())?;
+    out.flush()?;
+    Ok(())
+}
+
+fn judge_text(rt: &LibcRuntime, text: &[u8]) -> Result<usize, Failure> {
+    let source = Source::from_text(rt.alloc(), "text", text)?;
+    let program = source.read()?;
+    Ok(program.code().len())
+}
+
+fn judge_line(rt: &LibcRuntime, number: usize, text: &[u8]) -> Result<(), Failure> {
+    match judge_text(rt, text) {
+        Ok(words) => println!(rt, "{number:>3}  a program, words: {words}")?,
+        Err(failure) => println!(rt, "{number:>3}  {failure}")?,
+    }
+    Ok(())
+}
+
+fn run(rt: &LibcRuntime) -> Result<(), Failure> {
+    for path in env::args(rt)?.skip(1) {
+        show_file(rt, path)?;
+    }
+    println!(rt, "== lines")?;
+    let mut number: usize = 0;
+    for line in rt.lines(rt.alloc()) {
+        number = number.saturating_add(1);
+        judge_line(rt, number, line?.as_bytes())?;
+    }
+    Ok(())
+}
+
+fn main(rt: LibcRuntime) -> Result<(), Failure> {
+    let end = run(&rt);
+    if let Err(failure) = &end {
+        let _ = eprintln!(rt, "samples: {failure}");
+    }
+    end
+}
