@@ -6,6 +6,8 @@ use console::failure::FailureFromAlloc;
 use console::failure::FailureFromOutput;
 use console::outline::write_cache;
 use console::outline::write_program;
+use std::alloc::AllocError;
+use std::alloc::Global;
 use std::env;
 use std::io::BufWriter;
 use std::io::Write;
@@ -34,10 +36,23 @@ fn judge_line(rt: &LibcRuntime, number: usize, text: &[u8]) -> Result<(), Failur
     Ok(())
 }
 
+// A cache, and so many twos of nothing, each the second of the one before.
+fn chain(heap: Global, twos: u32) -> Result<Vec<u8>, AllocError> {
+    let mut text = Vec::new(heap);
+    text.extend_from_slice(b"1 2 1 1 10 1 ")?;
+    for _ in 0..twos {
+        text.extend_from_slice(b"2 5 ")?;
+    }
+    text.extend_from_slice(b"5")?;
+    Ok(text)
+}
+
 fn run(rt: &LibcRuntime) -> Result<(), Failure> {
     for path in env::args(rt)?.skip(1) {
         show_file(rt, path)?;
     }
+    println!(rt, "== a chain of 500000 twos")?;
+    judge_line(rt, 1, chain(rt.alloc(), 500000)?.as_slice())?;
     println!(rt, "== lines")?;
     let mut number: usize = 0;
     for line in rt.lines(rt.alloc()) {
