@@ -4,3 +4,4 @@ pub mod Fronts
 pub mod Limits
 pub mod Along
 pub mod Whole
+pub mod Fits

@@ -66,6 +66,24 @@ size-of Either = 1
 size-of (Loop n) = 2
 size-of Skip = 1
 
+-- how many programs it holds
+abbrev pub parts-of : Node → ℕ
+parts-of (Work n) = 0
+parts-of (Touch b ks) = 0
+parts-of Seq = 2
+parts-of Either = 2
+parts-of (Loop n) = 1
+parts-of Skip = 0
+
+-- whether it is no work, touch or either
+abbrev pub quiet-of : Node → Bool
+quiet-of (Work n) = false
+quiet-of (Touch b ks) = false
+quiet-of Seq = true
+quiet-of Either = false
+quiet-of (Loop n) = true
+quiet-of Skip = true
+
 -- no program's words begin the words ws, under so many loops and so deep
 abbrev pub None-begins : List ℕ → ℕ → ℕ → Type 0
 None-begins ws loops depth = (p : P) (rest : List ℕ) → ws ≡ row p ++ rest → ok loops 0 p ≡ true → depth + deep p ≤ 200 → ⊥

@@ -1,5 +1,5 @@
 ghost use mathlib.Core.Path.{_≡_};
-ghost use Rattle.cycles.specs.Reading.{Begins, size-of};
+ghost use Rattle.cycles.specs.Reading.{Begins, parts-of, quiet-of, size-of};
 use crate::fault::Rule;
 
 // What a program begins with: one node, with what it holds itself.
@@ -25,6 +25,30 @@ impl Node<'_> {
             Node::Either => 1,
             Node::Loop(_) => 2,
             Node::Skip => 1,
+        }
+    }
+
+    // How many programs the node holds.
+    pub fn parts(self) -> usize
+        ensures { λ r. ⌜ r ≡ parts-of (self .entry) ⌝ }
+    {
+        match self {
+            Node::Seq => 2,
+            Node::Either => 2,
+            Node::Loop(_) => 1,
+            _ => 0,
+        }
+    }
+
+    // Whether the node is no work, touch or either, so that it does nothing itself.
+    pub fn is_quiet(self) -> bool
+        ensures { λ r. ⌜ r ≡ quiet-of (self .entry) ⌝ }
+    {
+        match self {
+            Node::Seq => true,
+            Node::Loop(_) => true,
+            Node::Skip => true,
+            _ => false,
         }
     }
 }

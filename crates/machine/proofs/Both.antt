@@ -50,8 +50,8 @@ module _ (c d : Cache) (R : At → At → Type 0)
   play-both (seq p q) rs a b r = on-both R (play c q rs) (play d q rs) (play-both p rs a b r) (play-both q rs)
   play-both (either p q) rs a b r =
       choose-both R (a .choices) (b .choices) (λ x xs. which x (play c p rs) (play c q rs) (left a xs)) (λ x xs. which x (play d p rs) (play d q rs) (left b xs)) (chosen a b r)
-        (λ x xs. which-both R x (play c p rs) (play c q rs) (play d p rs) (play d q rs) (left a xs) (left b xs)
-          (play-both p rs (left a xs) (left b xs) (lefts xs a b r))
-          (play-both q rs (left a xs) (left b xs) (lefts xs a b r)))
+      (λ x xs. which-both R x (play c p rs) (play c q rs) (play d p rs) (play d q rs) (left a xs) (left b xs)
+      (play-both p rs (left a xs) (left b xs) (lefts xs a b r))
+      (play-both q rs (left a xs) (left b xs) (lefts xs a b r)))
   play-both (times n p) rs a b r = rounds-both R n 0 (λ i. play c p (i ∷ rs)) (λ i. play d p (i ∷ rs)) (λ i. play-both p (i ∷ rs)) a b r
   play-both skip rs a b r = each r

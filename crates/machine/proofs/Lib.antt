@@ -4,3 +4,9 @@ pub mod Wide
 pub mod Runs
 pub mod Stays
 pub mod Addresses
+pub mod Surveys
+pub mod Times
+pub mod Going
+pub mod Turning
+pub mod CellLaws
+pub mod WayLaws

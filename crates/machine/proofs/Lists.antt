@@ -65,12 +65,12 @@ use-line w x l = pick (among x l) (x ∷ without x l) (take w (x ∷ l))
 pub use-front : (m n : ℕ) (x : ℕ) {k l : List ℕ} → m ≤ n → Front k l → Front (use-line m x k) (use-line n x l)
 use-front m n x {k} {l} h f =
     by (among x k) (λ v. Front v (use-line n x l)) (x ∷ without x k) (take m (x ∷ k))
-      (λ e. by (among x l) (λ v. Front (x ∷ without x k) v) (x ∷ without x l) (take n (x ∷ l))
-        (λ _. and-so (front-without x f))
-        (λ e′. absurd (both-ways (among x l) e′ (among-front x f e))))
-      (λ e. by (among x l) (λ v. Front (take m (x ∷ k)) v) (x ∷ without x l) (take n (x ∷ l))
-        (λ _. front-take m (and-so (front-behind x f e)))
-        (λ _. front-takes m n h (and-so f)))
+    (λ e. by (among x l) (λ v. Front (x ∷ without x k) v) (x ∷ without x l) (take n (x ∷ l))
+    (λ _. and-so (front-without x f))
+    (λ e′. absurd (both-ways (among x l) e′ (among-front x f e))))
+    (λ e. by (among x l) (λ v. Front (take m (x ∷ k)) v) (x ∷ without x l) (take n (x ∷ l))
+    (λ _. front-take m (and-so (front-behind x f e)))
+    (λ _. front-takes m n h (and-so f)))
 
 -- sets side by side
 abbrev pub lines : St → ℕ → List ℕ

@@ -68,6 +68,7 @@ pub record Ran (c : Cache) (p : P) (rs : List ℕ) (a b : At) : Type 0 where
   pub used : a .choices ≡ bs ++ b .choices
   pub took : b .time ≡ a .time + n
   pub run : Run c p rs (a .st) bs n (b .st)
+
 pub record Looped (c : Cache) (k i : ℕ) (p : P) (rs : List ℕ) (a b : At) : Type 0 where
   pub bs : List Bool
   pub n : ℕ
@@ -118,6 +119,7 @@ pub runs-are-plays : (c : Cache) (p : P) (rs : List ℕ) (m n : ℕ) (s t : St) 
 runs-are-plays c p rs m n s t bs ds = (λ r. run-play r m ds, run-exact c p rs m n s t bs ds)
 
 pub Play-is-Run : (c : Cache) (p : P) (s t : St) (bs : List Bool) (n : ℕ) → Play c p s bs n t ↔ Run c p [] s bs n t
-Play-is-Run c p s t bs n =
-    ( λ e. run-exact c p [] 0 n s t bs [] (rw (append-nil bs, zero-add n) e)
-    , λ r. rw (append-nil bs, zero-add n) at (run-play r 0 []) )
+Play-is-Run c p s t bs n = (
+  λ e. run-exact c p [] 0 n s t bs [] (rw (append-nil bs, zero-add n) e),
+  λ r. rw (append-nil bs, zero-add n) at (run-play r 0 []),
+)

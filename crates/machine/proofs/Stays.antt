@@ -109,11 +109,11 @@ good-in : (c : Cache) (s : St) → Sound c s → (i : ℕ) (l : List ℕ) → nt
 good-in c s h i l e = record { few = h .ways i l e; once = once-in l (λ x j k. h .once i x j k l e) }
 
 put-sound : (c : Cache) (s : St) (i : ℕ) (v : List ℕ) → Sound c s → Good (c .ways) v → Sound c (put s i v)
-put-sound c s i v h g = record
-  { sets = put-length s i v ∙ h .sets
-  ; ways = λ j l e. good j l e .few
-  ; once = λ j x k m l e. once-out (good j l e .once) x k m
-  }
+put-sound c s i v h g = record {
+  sets = put-length s i v ∙ h .sets;
+  ways = λ j l e. good j l e .few;
+  once = λ j x k m l e. once-out (good j l e .once) x k m;
+}
   where
     good : (j : ℕ) (l : List ℕ) → nth (put s i v) j ≡ some l → Good (c .ways) l
     good j l e = ⊎-elim (λ z. subst (Good (c .ways)) (sym z) g) (λ z. good-in c s h j l z) (put-nth s i j v l e)
@@ -125,8 +125,8 @@ after-sound c s a h =
     let l = lines s i in
     let g = lines-good (c .ways) s i (good-in c s h) in
     by (there c s a) (Sound c) (pick (c .used) (put s i (x ∷ without x l)) s) (put s i (come c x l))
-      (λ e. by (c .used) (Sound c) (put s i (x ∷ without x l)) s (λ _. put-sound c s i (x ∷ without x l) h (used-good (c .ways) x l e g)) (λ _. h))
-      (λ e. put-sound c s i (come c x l) h (come-good (c .ways) x l e g))
+    (λ e. by (c .used) (Sound c) (put s i (x ∷ without x l)) s (λ _. put-sound c s i (x ∷ without x l) h (used-good (c .ways) x l e g)) (λ _. h))
+    (λ e. put-sound c s i (come c x l) h (come-good (c .ways) x l e g))
 
 pub stays-sound : Stays-sound
 stays-sound s c p t a r h = after-sound c t a h

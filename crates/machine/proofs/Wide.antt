@@ -32,9 +32,11 @@ module _ (c : Cache) (w : ℕ) (u : c .used ≡ true) (wide : c .ways ≤ w) (fa
   after-fronts : (a : ℕ) (s t : St) → Fronts s t → Fronts (after c s a) (after (with-ways c w) t a)
   after-fronts a s t f =
       rw (after-used c s a u, after-used (with-ways c w) t a u)
-        (fronts-put f (set-of c a) (use-front (c .ways) w (line-of c a) wide (fronts-at f (set-of c a))))
+      (fronts-put f (set-of c a) (use-front (c .ways) w (line-of c a) wide (fronts-at f (set-of c a))))
+
   cost-less : (a : ℕ) (s t : St) → Fronts s t → cost (with-ways c w) t a ≤ cost c s a
   cost-less a s t f = let r = among-front (line-of c a) (fronts-at f (set-of c a)) in grind arith
+
   pub plays-sim : (p : P) (rs : List ℕ) (a b : At) → Sim a b → Both Sim (play c p rs a) (play (with-ways c w) p rs b)
   plays-sim = play-both c (with-ways c w) Sim
       (λ n a b r. record { fronts = r .fronts; quick = omega (arith, r .quick); same = r .same })
@@ -46,6 +48,7 @@ module _ (c : Cache) (w : ℕ) (u : c .used ≡ true) (wide : c .ways ≤ w) (fa
 pub T-left : (x y : Bool) → T (x && y) → T x
 T-left true y t = tt
 T-left false y t = t
+
 pub T-right : (x y : Bool) → T (x && y) → T y
 T-right true y t = t
 T-right false y t = absurd t

@@ -1,3 +1,6 @@
 -- The definitions that the contracts cite.
 pub mod Around
 pub mod Cells
+pub mod Places
+pub mod Playing
+pub mod Trace

@@ -1,5 +1,5 @@
 use native.Mathlib.Omega.{arith}
-use Rattle.console.proofs.Fits.{fits}
+use Rattle.cycles.proofs.Fits.{fits}
 use Rattle.console.proofs.outline.write_program.Needs as need
 
 pub part-rest-count : need.part-rest-count

@@ -1,0 +1,34 @@
+ghost use mathlib.Core.List.{List, [], _∷_, _++_};
+ghost use mathlib.Core.Path.{_≡_};
+ghost use Rattle.machine.specs.declared.observer.Event.{Event};
+ghost use Rattle.machine.specs.declared.observer.Event.the-variants.{Work, Touch};
+
+// One touch of memory: the cycle at which it begins, what is touched, and what that does.
+#[derive(Clone, Copy)]
+pub struct Access {
+    pub start: u64,
+    pub address: u32,
+    pub line: u32,
+    pub set: u32,
+    pub hit: bool,
+    pub cycles: u32,
+    pub evicted: Option<u32>,
+}
+
+// What a play does: work from a cycle on, or a touch.
+#[derive(Clone, Copy)]
+pub enum Event {
+    Work(u64, u32),
+    Touch(Access),
+}
+
+// Is told what a play does, in order.
+pub trait Observer {
+    ghost told: { Self → List Event };
+
+    fn work(&mut self, start: u64, cycles: u32)
+        ensures { λ _. ⌜ told (now (self .exit)) ≡ told (now (self .entry)) ++ (Work start cycles ∷ []) ⌝ };
+
+    fn touch(&mut self, access: Access)
+        ensures { λ _. ⌜ told (now (self .exit)) ≡ told (now (self .entry)) ++ (Touch access ∷ []) ⌝ };
+}
