@@ -19,14 +19,14 @@ is-true true h = refl
 is-true false h = absurd h
 
 -- what a reading says of the cache, and of the words behind its six
-record Parted (ws : List ℕ) (c : Cache) (p : P) : Type 0 where
-  shaped : okC c ≡ true
-  all : drop 6 ws ≡ row p ++ []
-  fine : ok 0 0 p ≡ true
-  shallow : 0 + deep p ≤ 200
-  little : amount p ≤ 4294967296
+pub record Parted (ws : List ℕ) (c : Cache) (p : P) : Type 0 where
+  pub shaped : okC c ≡ true
+  pub all : drop 6 ws ≡ row p ++ []
+  pub fine : ok 0 0 p ≡ true
+  pub shallow : 0 + deep p ≤ 200
+  pub little : amount p ≤ 4294967296
 
-parted : (ws : List ℕ) (c : Cache) (p : P) → Reads ws c p → Parted ws c p
+pub parted : (ws : List ℕ) (c : Cache) (p : P) → Reads ws c p → Parted ws c p
 parted ws c p r =
     let a = and-parts (okC c) (ok 0 0 p && (leb (deep p) 200 && leb (amount p) 4294967296)) (is-true _ (r .fine)) in
     let b = and-parts (ok 0 0 p) (leb (deep p) 200 && leb (amount p) 4294967296) (a .1) in

@@ -217,3 +217,8 @@ pub touch-bounds : (c : Cache) (ws : List ℕ) (loops : ℕ) (q : P) (rest : Lis
 touch-bounds c ws loops q rest g xs ys es fs b ks v n quick k h o =
     let t = fit-touch c [] loops [] ws q rest g b ks k h .0 in
     (omega (arith, ap length k, length-append ks (drop (3 + length ks) (drop (g .at) ws)), length-drop (g .at) ws, h .within), omega (arith, o .cost, cost-bound c (state-of c xs) v quick, h .room, ap amount t))
+
+-- the same in equal rounds, under as many loops, from an equal place
+pub goes-in : (c : Cache) (rs rs′ : List ℕ) (l l′ : ℕ) (bs : List Bool) (ws : List ℕ) (f f′ : Place) (xs ys : List ℕ) (es fs : List Event) (r : StdOption Place) → rs ≡ rs′ → l ≡ l′ → f ≡ f′ → Goes c rs l bs ws f xs ys es fs r → Goes c rs′ l′ bs ws f′ xs ys es fs r
+goes-in c rs rs′ l l′ bs ws f f′ xs ys es fs r a b d m =
+    subst (λ z. Goes c z l′ bs ws f′ xs ys es fs r) a (subst (λ z. Goes c rs z bs ws f′ xs ys es fs r) b (subst (λ z. Goes c rs l bs ws z xs ys es fs r) d m))

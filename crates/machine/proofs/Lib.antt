@@ -10,3 +10,5 @@ pub mod Going
 pub mod Turning
 pub mod CellLaws
 pub mod WayLaws
+pub mod Sums
+pub mod Told

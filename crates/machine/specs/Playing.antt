@@ -7,13 +7,16 @@ use Prim.Native.Nat.{ℕ, _+_, _*_, _≤_, _<_}
 use lib.ListN.{length, drop}
 use Rattle.std.specs.declared.option.Option.{Option as StdOption}
 use Rattle.std.specs.declared.option.Option.the-variants.{Some, None}
-use Rattle.cycles.specs.Code.{P, work, touch, seq, either, times, skip, Cache}
-use Rattle.cycles.specs.Plays.{At, play}
-use Rattle.cycles.specs.Rows.{row, ok, amount}
+use Rattle.cycles.specs.Code.{P, work, touch, seq, either, times, skip, Cache, St, empty}
+use Rattle.cycles.specs.Plays.{At, play, Play}
+use Rattle.cycles.specs.Rows.{row, ok, amount, Reads}
+use Rattle.cycles.specs.Says.{Stays-sound, Wider-holds, Wider-never-slower, Empty-is-worst}
+use Rattle.machine.specs.declared.player.Played.{Played}
+use Rattle.machine.specs.declared.player.Played.the-variants.{Whole, LeftOver, RanOut, NoProgram, Few}
 use Rattle.machine.specs.declared.observer.Event.{Event}
 use Rattle.machine.specs.declared.player.Place.{Place}
 use Rattle.machine.specs.Cells.{state-of}
-use Rattle.machine.specs.Trace.{trace, touch-event}
+use Rattle.machine.specs.Trace.{trace, touch-event, sum-cycles}
 use Rattle.machine.specs.declared.survey.Survey.{Survey}
 
 -- a program stands at a place
@@ -68,3 +71,23 @@ pub record Surveyed (ws : List ℕ) (at : ℕ) (s : Survey) : Type 0 where
   pub ends : (p : P) (rest : List ℕ) → drop at ws ≡ row p ++ rest → s .end ≡ at + length (row p)
   pub does : (p : P) (rest : List ℕ) → drop at ws ≡ row p ++ rest → s .quiet ≡ still p
   pub within : s .end ≤ length ws
+
+-- where every play begins
+abbrev pub begin : Cache → List Bool → At
+begin c bs = record { time = 0; st = empty c; choices = bs }
+
+-- what is told of a play of the words ws by the choices bs, with w words lent, and the events es told before and fs behind: the play is the definitions' play, and the events are its trace
+abbrev pub PlaySays : List ℕ → List Bool → ℕ → List Event → List Event → Played → Type 0
+PlaySays ws bs w es fs (Whole n k) = (c : Cache) × (p : P) × Reads ws c p × ((t : St) × Play c p (empty c) bs n t) × (k ≡ length bs) × (fs ≡ es ++ trace c p [] (begin c bs)) × (sum-cycles (trace c p [] (begin c bs)) ≡ n)
+PlaySays ws bs w es fs (LeftOver n k) = (c : Cache) × (p : P) × Reads ws c p × ((t : St) × (play c p [] (begin c bs) ≡ some (record { time = n; st = t; choices = drop k bs }))) × (k < length bs) × (fs ≡ es ++ trace c p [] (begin c bs)) × (sum-cycles (trace c p [] (begin c bs)) ≡ n)
+PlaySays ws bs w es fs RanOut = (c : Cache) × (p : P) × Reads ws c p × (play c p [] (begin c bs) ≡ none) × (fs ≡ es ++ trace c p [] (begin c bs))
+PlaySays ws bs w es fs NoProgram = ((c : Cache) (p : P) → Reads ws c p → ⊥) × (fs ≡ es)
+PlaySays ws bs w es fs Few = (c : Cache) × (p : P) × Reads ws c p × (w < c .sets * c .ways) × (fs ≡ es)
+
+-- what the call promises, with the theorems about caches
+pub record PlayPost (ws : List ℕ) (bs : List Bool) (w : ℕ) (es fs : List Event) (r : Played) : Type 0 where
+  pub says : PlaySays ws bs w es fs r
+  pub sound : Stays-sound
+  pub holds : Wider-holds
+  pub quicker : Wider-never-slower
+  pub worst : Empty-is-worst

@@ -5,7 +5,8 @@ ghost use Rattle.std.specs.declared.result.Result.the-variants.{Ok};
 ghost use Rattle.cycles.specs.declared.node.Node.the-variants.{Either, Loop};
 ghost use Rattle.cycles.specs.Reading.{Begins, cache as cache-of};
 ghost use Rattle.machine.specs.Around.{around};
-ghost use Rattle.machine.specs.Playing.{Goes, Observed, Ready};
+ghost use Rattle.machine.specs.Playing.{Goes, Observed, PlayPost, Ready};
+use crate::cache::clear;
 use crate::cache::cycles;
 use crate::cache::touch;
 use crate::observer::Access;
@@ -15,6 +16,7 @@ use crate::survey::look_over;
 use crate::survey::node_at;
 use cycles::geometry::Geometry;
 use cycles::node::Node;
+use cycles::reader::read;
 
 // Where a play is: the word that is next, the cycles so far, and the choices used.
 #[derive(Clone, Copy)]
@@ -48,6 +50,20 @@ impl Place {
             used: self.used,
         }
     }
+}
+
+// How a play came out.
+#[derive(Clone, Copy)]
+pub enum Played {
+    // all choices were used: the cycles, and how many choices
+    Whole(u64, usize),
+    // the program ended before its choices: the cycles, and how many choices were used
+    LeftOver(u64, usize),
+    // the choices ended before the program
+    RanOut,
+    NoProgram,
+    // fewer words were lent than the cache has ways
+    Few,
 }
 
 // What a play is of: words that are a cache and a program, and choices.
@@ -179,4 +195,39 @@ fn go_rounds<O: Observer>(
         here = go(game, here.to(start), rounds.inside(round), cells, observer)?;
     }
     Some(here.to(body.end))
+}
+
+// Plays a program by choices, from an empty cache in lent words, and tells an observer each work and touch.
+pub fn play<'a, O: Observer>(
+    words: &'a [u32],
+    choices: &'a [bool],
+    cells: &mut [u32],
+    observer: &mut O,
+) -> Played
+    ensures { λ r. ⌜ PlayPost (now (words .entry)) (now (choices .entry)) (length (now (cells .entry))) (told (now (observer .entry))) (told (now (observer .exit))) r ⌝ }
+{
+    let Ok(cache) = read(words) else {
+        return Played::NoProgram;
+    };
+    if cells.len() < cache.sets as usize * cache.ways as usize {
+        return Played::Few;
+    }
+    clear(cells);
+    let game = Game {
+        words,
+        choices,
+        cache,
+    };
+    let start = Place {
+        at: 6,
+        time: 0,
+        used: 0,
+    };
+    let Some(end) = go(game, start, Rounds::none(), cells, observer) else {
+        return Played::RanOut;
+    };
+    if end.used < choices.len() {
+        return Played::LeftOver(end.time, end.used);
+    }
+    Played::Whole(end.time, end.used)
 }

@@ -15,7 +15,7 @@ use Rattle.machine.specs.declared.observer.Event.{Event}
 use Rattle.machine.specs.declared.player.Place.{Place}
 use Rattle.machine.specs.Playing.{Fit, Came, Goes}
 use Rattle.machine.proofs.Times.{Quick}
-use Rattle.machine.proofs.Going.{Onward, onward-start, onward-end, fit-seq, onward-seq, came-work, came-skip, fit-touch, came-touch, fit-either, came-none, came-second, came-first, came-first-none, came-as, goes-as, seq-none, stands, ready-as, work-bounds, touch-bounds}
+use Rattle.machine.proofs.Going.{Onward, onward-start, onward-end, fit-seq, onward-seq, came-work, came-skip, fit-touch, came-touch, fit-either, came-none, came-second, came-first, came-first-none, came-as, goes-as, goes-in, seq-none, stands, ready-as, work-bounds, touch-bounds}
 use Rattle.machine.proofs.Turning.{Turned, Body, body, turned-start, fit-body, turned-more, turned-none, turned-all, came-quiet}
 use Rattle.machine.proofs.player.+go+go_either+go_rounds.Needs as need
 
@@ -160,11 +160,6 @@ go-rounds-go-requires g t c κs =
     let v = ap (λ z. z .used) (c .to-in-loop-round .ensures) in
     let w = b .within in
     λ k. (omega arith, (k, (ready-as _ _ _ (c .to-in-loop-round .result) (b .a) _ (c .to-in-loop-round .ensures) d, (omega (arith, c .loop-round .inv .0), omega arith))))
-
--- what is told inside a loop, by the round that it is in
-goes-in : (c : Cache) (rs rs′ : List ℕ) (l l′ : ℕ) (bs : List Bool) (ws : List ℕ) (f f′ : Place) (xs ys : List ℕ) (es fs : List Event) (r : Option Place) → rs ≡ rs′ → l ≡ l′ → f ≡ f′ → Goes c rs l bs ws f xs ys es fs r → Goes c rs′ l′ bs ws f′ xs ys es fs r
-goes-in c rs rs′ l l′ bs ws f f′ xs ys es fs r a b d m =
-    subst (λ z. Goes c z l′ bs ws f′ xs ys es fs r) a (subst (λ z. Goes c rs z bs ws f′ xs ys es fs r) b (subst (λ z. Goes c rs l bs ws z xs ys es fs r) d m))
 
 pub go-rounds-returns-in-Break-here : need.go-rounds-returns-in-Break-here
 go-rounds-returns-in-Break-here g t c p rest h =
