@@ -12,3 +12,4 @@ pub mod CellLaws
 pub mod WayLaws
 pub mod Sums
 pub mod Told
+pub mod Tellings

@@ -22,7 +22,9 @@ use Rattle.cycles.proofs.Unique.{of}
 use Rattle.machine.specs.declared.observer.Event.{Event}
 use Rattle.machine.specs.declared.player.Place.{Place}
 use Rattle.machine.specs.Trace.{trace, then-trace, rounds-trace}
+use Rattle.machine.specs.Telling.{Tells}
 use Rattle.machine.specs.Playing.{Fit, Came, here, still}
+use Rattle.machine.proofs.Tellings.{tells-none, tells-as, tells-then}
 use Rattle.machine.proofs.Times.{Quick, play-bound}
 
 -- a program that does nothing leaves a play where it is
@@ -48,9 +50,11 @@ abbrev place-at : ℕ → ℕ → ℕ → Place
 place-at at time used = record { at = at; time = time; used = used }
 
 -- the loop p of n rounds of a, begun at f, is in round i at g
-pub record Turned (c : Cache) (rs : List ℕ) (bs : List Bool) (p a : P) (n i : ℕ) (f : Place) (xs : List ℕ) (es : List Event) (g : Place) (ys : List ℕ) (fs : List Event) : Type 0 where
+pub record Turned (c : Cache) (rs : List ℕ) (bs : List Bool) (p a : P) (n i : ℕ) (f : Place) (xs : List ℕ) (K : List Event → Type 0) (g : Place) (ys : List ℕ) (L : List Event → Type 0) : Type 0 where
   pub plays : play c p rs (here c bs f xs) ≡ rounds (n - i) i (λ j. play c a (j ∷ rs)) (here c bs g ys)
-  pub told : es ++ trace c p rs (here c bs f xs) ≡ fs ++ rounds-trace (n - i) i (λ j. play c a (j ∷ rs)) (λ j. trace c a (j ∷ rs)) (here c bs g ys)
+  pub done : List Event
+  pub told : Tells K L done
+  pub traced : trace c p rs (here c bs f xs) ≡ done ++ rounds-trace (n - i) i (λ j. play c a (j ∷ rs)) (λ j. trace c a (j ∷ rs)) (here c bs g ys)
   pub room : g .time + 65535 * ((n - i) * amount a) < 18446744073709551616
 
 -- the body of the loop that stands at a place
@@ -82,24 +86,26 @@ module _ (c : Cache) (rs : List ℕ) (loops : ℕ) (bs : List Bool) (ws : List �
         nested = ltb-true loops 8 (o .0);
       }
 
-  pub turned-start : (q a : P) (rest : List ℕ) (f : Place) (xs : List ℕ) (es : List Event) → q ≡ times n a → Fit ws loops f q rest → Turned c rs bs q a n 0 f xs es f xs es
-  turned-start q a rest f xs es e h =
+  pub turned-start : (q a : P) (rest : List ℕ) (f : Place) (xs : List ℕ) (K : List Event → Type 0) → q ≡ times n a → Fit ws loops f q rest → Turned c rs bs q a n 0 f xs K f xs K
+  turned-start q a rest f xs K e h =
       let z : n ≡ n - 0 = omega arith in
       record {
         plays = ap (λ k. play c k rs (here c bs f xs)) e ∙ ap (λ k. rounds k 0 (λ j. play c a (j ∷ rs)) (here c bs f xs)) z;
-        told = ap (λ k. es ++ trace c k rs (here c bs f xs)) e ∙ ap (λ k. es ++ rounds-trace k 0 (λ j. play c a (j ∷ rs)) (λ j. trace c a (j ∷ rs)) (here c bs f xs)) z;
+        done = [];
+        told = tells-none K;
+        traced = ap (λ k. trace c k rs (here c bs f xs)) e ∙ ap (λ k. rounds-trace k 0 (λ j. play c a (j ∷ rs)) (λ j. trace c a (j ∷ rs)) (here c bs f xs)) z;
         room = subst (λ k. f .time + 65535 * (k * amount a) < 18446744073709551616) z (omega (arith, h .room, ap amount e));
       }
 
   -- the next round's program
-  pub fit-body : (q a : P) (rest : List ℕ) (i : ℕ) (f : Place) (xs : List ℕ) (es : List Event) (g : Place) (ys : List ℕ) (fs : List Event) → drop (f .at + 2) ws ≡ row a ++ rest → f .at + 2 ≤ length ws → ok (loops + 1) 0 a ≡ true → i < n → Turned c rs bs q a n i f xs es g ys fs → Fit ws (loops + 1) (place-at (f .at + 2) (g .time) (g .used)) a rest
-  fit-body q a rest i f xs es g ys fs is w o h t =
+  pub fit-body : (q a : P) (rest : List ℕ) (i : ℕ) (f : Place) (xs : List ℕ) (K : List Event → Type 0) (g : Place) (ys : List ℕ) (L : List Event → Type 0) → drop (f .at + 2) ws ≡ row a ++ rest → f .at + 2 ≤ length ws → ok (loops + 1) 0 a ≡ true → i < n → Turned c rs bs q a n i f xs K g ys L → Fit ws (loops + 1) (place-at (f .at + 2) (g .time) (g .used)) a rest
+  fit-body q a rest i f xs K g ys L is w o h t =
       let k : n - i ≡ suc (n - (i + 1)) = omega arith in
       let r = subst (λ z. g .time + 65535 * (z * amount a) < 18446744073709551616) k (t .room) in
       record { is = is; within = w; fine = o; room = omega (arith, r, suc-mul (n - (i + 1)) (amount a), mul-add 65535 (amount a) ((n - (i + 1)) * amount a)) }
 
-  pub turned-more : Quick c → (q a : P) (i at : ℕ) (f : Place) (xs : List ℕ) (es : List Event) (g : Place) (ys zs : List ℕ) (fs gs : List Event) (t : Place) → i < n → ok (loops + 1) 0 a ≡ true → Turned c rs bs q a n i f xs es g ys fs → Came c (i ∷ rs) bs a (place-at at (g .time) (g .used)) ys zs fs gs (Some t) → Turned c rs bs q a n (i + 1) f xs es t zs gs
-  turned-more quick q a i at f xs es g ys zs fs gs t h o u m =
+  pub turned-more : Quick c → (q a : P) (i at : ℕ) (f : Place) (xs : List ℕ) (K : List Event → Type 0) (g : Place) (ys zs : List ℕ) (L M : List Event → Type 0) (t : Place) → i < n → ok (loops + 1) 0 a ≡ true → Turned c rs bs q a n i f xs K g ys L → Came c (i ∷ rs) bs a (place-at at (g .time) (g .used)) ys zs L M (Some t) → Turned c rs bs q a n (i + 1) f xs K t zs M
+  turned-more quick q a i at f xs K g ys zs L M t h o u m =
       let k : n - i ≡ suc (n - (i + 1)) = omega arith in
       let l = play-bound c a (i ∷ rs) (loops + 1) (here c bs g ys) (here c bs t zs) quick o (m .1) in
       let r = subst (λ z. g .time + 65535 * (z * amount a) < 18446744073709551616) k (u .room) in
@@ -107,24 +113,27 @@ module _ (c : Cache) (rs : List ℕ) (loops : ℕ) (bs : List Bool) (ws : List �
       let two : rounds-trace (n - i) i (λ j. play c a (j ∷ rs)) (λ j. trace c a (j ∷ rs)) (here c bs g ys) ≡ trace c a (i ∷ rs) (here c bs g ys) ++ rounds-trace (n - (i + 1)) (i + 1) (λ j. play c a (j ∷ rs)) (λ j. trace c a (j ∷ rs)) (here c bs t zs) = rw (k, add-one) (ap (λ z. trace c a (i ∷ rs) (here c bs g ys) ++ then-trace z (rounds-trace (n - suc i) (suc i) (λ j. play c a (j ∷ rs)) (λ j. trace c a (j ∷ rs)))) (m .1)) in
       record {
         plays = u .plays ∙ one;
-        told = u .told ∙ ap (λ z. fs ++ z) two ∙ sym (append-assoc fs (trace c a (i ∷ rs) (here c bs g ys)) (rounds-trace (n - (i + 1)) (i + 1) (λ j. play c a (j ∷ rs)) (λ j. trace c a (j ∷ rs)) (here c bs t zs))) ∙ ap (λ z. z ++ rounds-trace (n - (i + 1)) (i + 1) (λ j. play c a (j ∷ rs)) (λ j. trace c a (j ∷ rs)) (here c bs t zs)) (sym (m .2));
+        done = u .done ++ trace c a (i ∷ rs) (here c bs g ys);
+        told = tells-then K L M (u .told) (m .2);
+        traced = u .traced ∙ ap (λ z. u .done ++ z) two ∙ sym (append-assoc (u .done) (trace c a (i ∷ rs) (here c bs g ys)) (rounds-trace (n - (i + 1)) (i + 1) (λ j. play c a (j ∷ rs)) (λ j. trace c a (j ∷ rs)) (here c bs t zs)));
         room = omega (arith, l, r, suc-mul (n - (i + 1)) (amount a), mul-add 65535 (amount a) ((n - (i + 1)) * amount a));
       }
 
-  pub turned-none : (q a : P) (i at : ℕ) (f : Place) (xs : List ℕ) (es : List Event) (g : Place) (ys zs : List ℕ) (fs gs : List Event) → i < n → Turned c rs bs q a n i f xs es g ys fs → Came c (i ∷ rs) bs a (place-at at (g .time) (g .used)) ys zs fs gs None → Came c rs bs q f xs zs es gs None
-  turned-none q a i at f xs es g ys zs fs gs h u m =
+  pub turned-none : (q a : P) (i at : ℕ) (f : Place) (xs : List ℕ) (K : List Event → Type 0) (g : Place) (ys zs : List ℕ) (L M : List Event → Type 0) → i < n → Turned c rs bs q a n i f xs K g ys L → Came c (i ∷ rs) bs a (place-at at (g .time) (g .used)) ys zs L M None → Came c rs bs q f xs zs K M None
+  turned-none q a i at f xs K g ys zs L M h u m =
       let k : n - i ≡ suc (n - (i + 1)) = omega arith in
       let one : rounds (n - i) i (λ j. play c a (j ∷ rs)) (here c bs g ys) ≡ none = rw k (ap (λ z. on z (rounds (n - (i + 1)) (suc i) (λ j. play c a (j ∷ rs)))) (m .0)) in
       let two : rounds-trace (n - i) i (λ j. play c a (j ∷ rs)) (λ j. trace c a (j ∷ rs)) (here c bs g ys) ≡ trace c a (i ∷ rs) (here c bs g ys) ++ [] = rw k (ap (λ z. trace c a (i ∷ rs) (here c bs g ys) ++ then-trace z (rounds-trace (n - (i + 1)) (suc i) (λ j. play c a (j ∷ rs)) (λ j. trace c a (j ∷ rs)))) (m .0)) in
-      (u .plays ∙ one, m .1 ∙ sym (u .told ∙ ap (λ z. fs ++ z) (two ∙ append-nil (trace c a (i ∷ rs) (here c bs g ys)))))
+      (u .plays ∙ one, tells-as K M (sym (u .traced ∙ ap (λ z. u .done ++ z) (two ∙ append-nil (trace c a (i ∷ rs) (here c bs g ys))))) (tells-then K L M (u .told) (m .1)))
 
-  pub turned-all : (q a : P) (i at : ℕ) (f : Place) (xs : List ℕ) (es : List Event) (g : Place) (ys : List ℕ) (fs : List Event) → n ≤ i → q ≡ times n a → at ≡ f .at + 2 + length (row a) → g .used ≤ length bs → Turned c rs bs q a n i f xs es g ys fs → Came c rs bs q f xs ys es fs (Some (place-at at (g .time) (g .used)))
-  turned-all q a i at f xs es g ys fs h e w u t =
+  pub turned-all : (q a : P) (i at : ℕ) (f : Place) (xs : List ℕ) (K : List Event → Type 0) (g : Place) (ys : List ℕ) (L : List Event → Type 0) → n ≤ i → q ≡ times n a → at ≡ f .at + 2 + length (row a) → g .used ≤ length bs → Turned c rs bs q a n i f xs K g ys L → Came c rs bs q f xs ys K L (Some (place-at at (g .time) (g .used)))
+  turned-all q a i at f xs K g ys L h e w u t =
       let k : n - i ≡ 0 = omega arith in
-      (omega (arith, w, ap (λ z. length (row z)) e), t .plays ∙ rw k, sym (t .told ∙ ap (λ z. fs ++ z) (rw k) ∙ append-nil fs), u)
+      let none-left : rounds-trace (n - i) i (λ j. play c a (j ∷ rs)) (λ j. trace c a (j ∷ rs)) (here c bs g ys) ≡ [] = rw k in
+      (omega (arith, w, ap (λ z. length (row z)) e), t .plays ∙ rw k, tells-as K L (sym (t .traced ∙ ap (λ z. t .done ++ z) none-left ∙ append-nil (t .done))) (t .told), u)
 
   -- a body that does nothing need not be gone round
-  pub came-quiet : (q a : P) (at : ℕ) (f : Place) (xs : List ℕ) (es : List Event) → q ≡ times n a → at ≡ f .at + 2 + length (row a) → f .used ≤ length bs → still a ≡ true → Came c rs bs q f xs xs es es (Some (place-at at (f .time) (f .used)))
-  came-quiet q a at f xs es e w u s =
+  pub came-quiet : (q a : P) (at : ℕ) (f : Place) (xs : List ℕ) (K : List Event → Type 0) → q ≡ times n a → at ≡ f .at + 2 + length (row a) → f .used ≤ length bs → still a ≡ true → Came c rs bs q f xs xs K K (Some (place-at at (f .time) (f .used)))
+  came-quiet q a at f xs K e w u s =
       let k = still-stays c (times n a) rs (here c bs f xs) s in
-      (omega (arith, w, ap (λ z. length (row z)) e), ap (λ z. play c z rs (here c bs f xs)) e ∙ k .0, sym (append-nil es) ∙ ap (λ z. es ++ z) (sym (ap (λ z. trace c z rs (here c bs f xs)) e ∙ k .1)), u)
+      (omega (arith, w, ap (λ z. length (row z)) e), ap (λ z. play c z rs (here c bs f xs)) e ∙ k .0, tells-as K K (sym (ap (λ z. trace c z rs (here c bs f xs)) e ∙ k .1)) (tells-none K), u)

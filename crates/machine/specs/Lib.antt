@@ -3,4 +3,5 @@ pub mod Around
 pub mod Cells
 pub mod Places
 pub mod Playing
+pub mod Telling
 pub mod Trace

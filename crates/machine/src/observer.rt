@@ -1,7 +1,7 @@
-ghost use mathlib.Core.List.{List, [], _∷_, _++_};
-ghost use mathlib.Core.Path.{_≡_};
+ghost use mathlib.Core.List.{List, [], _∷_};
 ghost use Rattle.machine.specs.declared.observer.Event.{Event};
 ghost use Rattle.machine.specs.declared.observer.Event.the-variants.{Work, Touch};
+ghost use Rattle.machine.specs.Telling.{Tells};
 
 // One touch of memory: the cycle at which it begins, what is touched, and what that does.
 #[derive(Clone, Copy)]
@@ -22,13 +22,13 @@ pub enum Event {
     Touch(Access),
 }
 
-// Is told what a play does, in order.
+// Is told what a play does, in order. Its ghost member says what it may have been told by now: of any such list, one event more makes the next.
 pub trait Observer {
-    ghost told: { Self → List Event };
+    ghost told: { Self → List Event → Type 0 };
 
     fn work(&mut self, start: u64, cycles: u32)
-        ensures { λ _. ⌜ told (now (self .exit)) ≡ told (now (self .entry)) ++ (Work start cycles ∷ []) ⌝ };
+        ensures { λ _. ⌜ Tells (told (now (self .entry))) (told (now (self .exit))) (Work start cycles ∷ []) ⌝ };
 
     fn touch(&mut self, access: Access)
-        ensures { λ _. ⌜ told (now (self .exit)) ≡ told (now (self .entry)) ++ (Touch access ∷ []) ⌝ };
+        ensures { λ _. ⌜ Tells (told (now (self .entry))) (told (now (self .exit))) (Touch access ∷ []) ⌝ };
 }

@@ -27,6 +27,9 @@ quick g = record { hit = omega (arith, g .«cycles_fit»); miss = omega (arith, 
 same-body : {p a b : P} {n : ℕ} → p ≡ times n a → p ≡ times n b → a ≡ b
 same-body e f = cc
 
+pub go-loop-cycles-holds : need.go-loop-cycles-holds
+go-loop-cycles-holds g t c = (c .pre .used, omega arith, λ p rest h. onward-start (cache (c .args .game .cache)) (around (c .args .rounds .at) (c .args .rounds .depth)) (c .args .rounds .depth) (c .args .game .choices .now) (c .args .game .words .now) p rest (c .args .from) _ _ h)
+
 pub go-past-requires : need.go-past-requires
 go-past-requires g t c κs =
     let o = c .loop-cycles .inv .2 (c .pre .ready .p) (c .pre .ready .rest) (c .pre .ready .fit) in
@@ -85,6 +88,16 @@ go-loop-cycles-again g t c =
     let x = fit-seq (cache (c .args .game .cache)) (around (c .args .rounds .at) (c .args .rounds .depth)) (c .args .rounds .depth) (c .args .game .choices .now) (c .args .game .words .now) (o .q) (c .pre .ready .rest) (c .loop-cycles .here) (c .in-Seq .ensures tt) (o .fit) in
     let m = came (x .0) _ (x .3) in
     (m .3, omega (arith, m .0, c .loop-cycles .inv .1), λ p rest h. onward-seq (cache (c .args .game .cache)) (around (c .args .rounds .at) (c .args .rounds .depth)) (c .args .rounds .depth) (c .args .game .choices .now) (c .args .game .words .now) (quick (c .args .game .cache)) p rest _ _ _ (c .loop-cycles .here) _ _ (c .in-Seq .ensures tt) (c .loop-cycles .inv .2 p rest h) (c .in-Continue-here .here) _ _ came)
+
+pub go-returns-in-Either : need.go-returns-in-Either
+go-returns-in-Either g t c p rest h =
+    let o = c .loop-cycles .inv .2 p rest h in
+    onward-end (cache (c .args .game .cache)) (around (c .args .rounds .at) (c .args .rounds .depth)) (c .args .rounds .depth) (c .args .game .choices .now) (c .args .game .words .now) p rest _ _ _ (c .loop-cycles .here) (c .loop-cycles .cells) (c .go-either .last .cells) _ _ (c .go-either .result) o (c .go-either .ensures (o .q) rest (o .fit))
+
+pub go-returns-in-Loop : need.go-returns-in-Loop
+go-returns-in-Loop g t c p rest h =
+    let o = c .loop-cycles .inv .2 p rest h in
+    onward-end (cache (c .args .game .cache)) (around (c .args .rounds .at) (c .args .rounds .depth)) (c .args .rounds .depth) (c .args .game .choices .now) (c .args .game .words .now) p rest _ _ _ (c .loop-cycles .here) (c .loop-cycles .cells) (c .go-rounds .last .cells) _ _ (c .go-rounds .result) o (c .go-rounds .ensures (o .q) rest (o .fit))
 
 pub go-returns-in-Skip : need.go-returns-in-Skip
 go-returns-in-Skip g t c p rest h =

@@ -7,14 +7,15 @@ use Rattle.std.specs.declared.option.Option.the-variants.{Some, None}
 use Rattle.cycles.specs.Reading.{cache}
 use Rattle.machine.specs.Playing.{Fit, Ready}
 use Rattle.machine.proofs.Going.{goes-in}
+use Rattle.machine.proofs.Tellings.{tells-none}
 use Rattle.machine.proofs.Told.{promised, start-fit, told-whole, told-left-over, told-ran-out}
 use Rattle.machine.proofs.player.play.Needs as need
 
 pub returns-in-rest : need.returns-in-rest
-returns-in-rest g c = promised _ _ _ _ _ _ (c .in-rest .ensures tt .says .1, refl)
+returns-in-rest g c = promised _ _ _ _ _ _ (c .in-rest .ensures tt .says .1, tells-none _)
 
 pub returns-then-cells-cache : need.returns-then-cells-cache
-returns-then-cells-cache g c = promised _ _ _ _ _ _ (cache (c .in-Ok .cache), c .in-Ok .ensures tt .says .0, c .in-Ok .ensures tt .says .1, c .if-cells-cache .taken, refl)
+returns-then-cells-cache g c = promised _ _ _ _ _ _ (cache (c .in-Ok .cache), c .in-Ok .ensures tt .says .0, c .in-Ok .ensures tt .says .1, c .if-cells-cache .taken, tells-none _)
 
 pub go-requires : need.go-requires
 go-requires g c κs =
