@@ -1,1 +1,3 @@
+-- The definitions that the contracts cite.
+pub mod Chosen
 pub mod Loaded

@@ -12,7 +12,7 @@ use Rattle.cycles.specs.Reading.{cache, Breaks}
 use Rattle.listing.specs.Lines.{line-of, newlines-in}
 use Rattle.listing.specs.Text.{Text}
 use Rattle.console.specs.declared.failure.Failure.{Failure}
-use Rattle.console.specs.declared.failure.Failure.the-variants.{Usage, File, Text as TextFailure, Words, Output, Memory}
+use Rattle.console.specs.declared.failure.Failure.the-variants.{Usage, File, Text as TextFailure, Words, Choice, RanOut, LeftOver, Output, Memory}
 use Rattle.console.specs.declared.source.Program.{Program}
 
 -- a program with exactly the words of the text; or, exactly where they are none, the word that breaks a rule, from 1, and its line (for a word that is missing the last)
@@ -22,5 +22,8 @@ Told t (Err (Words file line word rule)) = ((c : Cache) (q : P) → Reads (t .wo
 Told t (Err (Usage what word)) = ⊥
 Told t (Err (File file error)) = ⊥
 Told t (Err (TextFailure file line word flaw)) = ⊥
+Told t (Err (Choice line column flaw)) = ⊥
+Told t (Err (RanOut file given)) = ⊥
+Told t (Err (LeftOver file given used)) = ⊥
 Told t (Err (Output error)) = ⊥
 Told t (Err Memory) = ⊥

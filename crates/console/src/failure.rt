@@ -1,3 +1,5 @@
+use crate::choices::BadChoice;
+use crate::choices::BadChoiceDisplay;
 use cycles::fault::Rule;
 use cycles::fault::RuleDisplay;
 use listing::Flaw;
@@ -28,6 +30,23 @@ pub enum Failure {
         word: usize,
         rule: Rule,
     },
+    // a text that is no list of choices
+    Choice {
+        line: usize,
+        column: usize,
+        flaw: BadChoice,
+    },
+    // the program comes to an either when so many choices are used up
+    RanOut {
+        file: String,
+        given: usize,
+    },
+    // the program ends before its choices
+    LeftOver {
+        file: String,
+        given: usize,
+        used: usize,
+    },
     Output(io::Error),
     Memory,
 }
@@ -49,6 +68,21 @@ pub impl fmt::Display for Failure as FailureDisplay {
                 word,
                 rule,
             } => write!(f, "{file}:{line}: word {word}: {rule}"),
+            Failure::Choice { line, column, flaw } => {
+                write!(f, "standard input:{line}: column {column}: {flaw}")
+            }
+            Failure::RanOut { file, given } => {
+                write!(
+                    f,
+                    "{file}: too few choices: all {given} are used, and an either is come to"
+                )
+            }
+            Failure::LeftOver { file, given, used } => {
+                write!(
+                    f,
+                    "{file}: choices left over: {given} are given, and {used} used"
+                )
+            }
             Failure::Output(error) => write!(f, "standard output: {error}"),
             Failure::Memory => f.write_str("out of memory"),
         }

@@ -1,4 +1,5 @@
 // What the programs share: reading a listing, saying what is wrong, and showing a program.
+pub mod choices;
 pub mod failure;
 pub mod outline;
 pub mod source;
@@ -6,4 +7,5 @@ pub mod source;
 pub use failure::Failure;
 pub use failure::FailureDisplay;
 pub use source::Program;
+pub use source::Room;
 pub use source::Source;

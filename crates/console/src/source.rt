@@ -3,6 +3,7 @@ ghost use lib.ListN.{drop};
 ghost use Rattle.std.specs.Of.Vec.{vec-items};
 ghost use Rattle.console.specs.Loaded.{Told};
 ghost use Rattle.listing.specs.Text.{shown};
+use crate::choices::ChoiceText;
 use crate::failure::Failure;
 use crate::failure::FailureFromAlloc;
 use cycles::geometry::Geometry;
@@ -14,10 +15,12 @@ use std::fs;
 use std::io;
 use std::io::Read;
 
-// The room for words, for their lines, and for a piece of the text: together 4 MiB.
-const MOST_WORDS: usize = 1000448;
-
-const MOST_MARKS: usize = 1507328;
+// How many words, and words and lines together, there is room for: 4 bytes a word and a bit a mark.
+#[derive(Clone, Copy)]
+pub struct Room {
+    pub words: usize,
+    pub marks: usize,
+}
 
 const PIECE: usize = 4096;
 
@@ -40,6 +43,30 @@ impl From<Flaw> for Stop as StopFromFlaw {
     }
 }
 
+// The choices on standard input.
+pub fn read_choices(rt: &LibcRuntime, most: usize) -> Result<ChoiceText, Failure> {
+    let mut text = ChoiceText::new(rt.alloc(), most)?;
+    let mut piece = [0u8; PIECE];
+    let mut input = rt.stdin();
+    for _ in 0..u64::MAX {
+        let n = match input.read(&mut piece) {
+            Ok(n) => n,
+            Err(error) => {
+                let name = String::from_str(rt.alloc(), "standard input")?;
+                return Err(Failure::File(name, error));
+            }
+        };
+        if n == 0 {
+            break;
+        }
+        if let Err(flaw) = text.feed(&piece[0..n]) {
+            let (line, column) = text.position();
+            return Err(Failure::Choice { line, column, flaw });
+        }
+    }
+    Ok(text)
+}
+
 // Reads a text to its end, a piece at a time.
 fn read_text<R: Read + Drop>(mut from: R, listing: &mut Listing) -> Result<(), Stop> {
     let mut piece = [0u8; PIECE];
@@ -57,11 +84,19 @@ fn read_text<R: Read + Drop>(mut from: R, listing: &mut Listing) -> Result<(), S
 // A program that was read, with its cache.
 #[derive(Drop)]
 pub struct Program {
+    pub name: String,
     pub cache: Geometry,
     words: Vec<u32>,
 }
 
 impl Program {
+    // All words, the cache's first.
+    pub fn words(&self) -> &[u32]
+        ensures { λ r. ⌜ now r ≡ vec-items (now (self .entry) .words) ⌝ }
+    {
+        self.words.as_slice()
+    }
+
     // The program's own words, behind the six of the cache.
     pub fn code(&self) -> &[u32]
         ensures { λ r. ⌜ now r ≡ drop 6 (vec-items (now (self .entry) .words)) ⌝ }
@@ -79,15 +114,15 @@ pub struct Source {
 }
 
 impl Source {
-    pub fn from_stdin(rt: &LibcRuntime) -> Result<Source, Failure> {
-        let mut listing = Listing::new(rt.alloc(), MOST_WORDS, MOST_MARKS)?;
+    pub fn from_stdin(rt: &LibcRuntime, room: Room) -> Result<Source, Failure> {
+        let mut listing = Listing::new(rt.alloc(), room.words, room.marks)?;
         let end = read_text(rt.stdin(), &mut listing);
         let name = String::from_str(rt.alloc(), "standard input")?;
         Source::ended(name, listing, end)
     }
 
-    pub fn from_file(rt: &LibcRuntime, path: String) -> Result<Source, Failure> {
-        let mut listing = Listing::new(rt.alloc(), MOST_WORDS, MOST_MARKS)?;
+    pub fn from_file(rt: &LibcRuntime, room: Room, path: String) -> Result<Source, Failure> {
+        let mut listing = Listing::new(rt.alloc(), room.words, room.marks)?;
         let end = match fs::open(rt, path.as_str()) {
             Err(error) => Err(Stop::Input(error)),
             Ok(file) => read_text(file, &mut listing),
@@ -96,8 +131,8 @@ impl Source {
     }
 
     // A text that is there already, under a name for messages.
-    pub fn from_text(heap: Global, name: &str, text: &[u8]) -> Result<Source, Failure> {
-        let mut listing = Listing::new(heap, MOST_WORDS, MOST_MARKS)?;
+    pub fn from_text(heap: Global, room: Room, name: &str, text: &[u8]) -> Result<Source, Failure> {
+        let mut listing = Listing::new(heap, room.words, room.marks)?;
         let end = read_text(text, &mut listing);
         Source::ended(String::from_str(heap, name)?, listing, end)
     }
@@ -127,7 +162,7 @@ impl Source {
         match read(listing.words()) {
             Ok(cache) => {
                 let words = listing.into_words();
-                Ok(Program { cache, words })
+                Ok(Program { name, cache, words })
             }
             Err(fault) => {
                 let line = match listing.line_of(fault.place) {

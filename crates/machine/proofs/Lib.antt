@@ -13,3 +13,4 @@ pub mod WayLaws
 pub mod Sums
 pub mod Told
 pub mod Tellings
+pub mod Totals

@@ -4,3 +4,4 @@ pub mod observer;
 pub mod player;
 pub mod rounds;
 pub mod survey;
+pub mod tally;

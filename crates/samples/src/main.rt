@@ -1,6 +1,7 @@
 // For the gate: shows each file that is named, and says of each line of standard input, a listing of its own, what it is.
 use console::Failure;
 use console::FailureDisplay;
+use console::Room;
 use console::Source;
 use console::failure::FailureFromAlloc;
 use console::failure::FailureFromOutput;
@@ -12,9 +13,14 @@ use std::env;
 use std::io::BufWriter;
 use std::io::Write;
 
+const ROOM: Room = Room {
+    words: 1000448,
+    marks: 1507328,
+};
+
 fn show_file(rt: &LibcRuntime, path: String) -> Result<(), Failure> {
     println!(rt, "== {path}")?;
-    let program = Source::from_file(rt, path)?.read()?;
+    let program = Source::from_file(rt, ROOM, path)?.read()?;
     let mut out = BufWriter::new(rt.stdout());
     write_cache(&mut out, program.cache)?;
     write_program(&mut out, rt.alloc(), program.code())?;
@@ -23,7 +29,7 @@ fn show_file(rt: &LibcRuntime, path: String) -> Result<(), Failure> {
 }
 
 fn judge_text(rt: &LibcRuntime, text: &[u8]) -> Result<usize, Failure> {
-    let source = Source::from_text(rt.alloc(), "text", text)?;
+    let source = Source::from_text(rt.alloc(), ROOM, "text", text)?;
     let program = source.read()?;
     Ok(program.code().len())
 }

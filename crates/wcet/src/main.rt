@@ -1,6 +1,7 @@
 // `wcet [FILE]` shows the cache and the program that the words of FILE, or of standard input, are.
 use console::Failure;
 use console::FailureDisplay;
+use console::Room;
 use console::Source;
 use console::failure::FailureFromAlloc;
 use console::failure::FailureFromOutput;
@@ -9,6 +10,12 @@ use console::outline::write_program;
 use std::env;
 use std::io::BufWriter;
 use std::io::Write;
+
+// With a piece of the text of 4096 bytes, 4 MiB; what the marks take is given back before anything is written.
+const ROOM: Room = Room {
+    words: 1000448,
+    marks: 1507328,
+};
 
 const HELP: &str = "usage: wcet [FILE]
 
@@ -65,8 +72,8 @@ fn asked(rt: &LibcRuntime) -> Result<Task, Failure> {
 
 fn show(rt: &LibcRuntime, file: Option<String>) -> Result<(), Failure> {
     let source = match file {
-        None => Source::from_stdin(rt)?,
-        Some(path) => Source::from_file(rt, path)?,
+        None => Source::from_stdin(rt, ROOM)?,
+        Some(path) => Source::from_file(rt, ROOM, path)?,
     };
     let program = source.read()?;
     let mut out = BufWriter::new(rt.stdout());
