@@ -14,6 +14,7 @@ use std::io;
 pub enum Failure {
     // words on the command line that make no sense
     Usage(&'static str, String),
+    NoFile,
     // a file that cannot be read
     File(String, io::Error),
     // a text that is no list of words
@@ -55,6 +56,7 @@ pub impl fmt::Display for Failure as FailureDisplay {
     fn fmt<W: fmt::Write>(&self, f: &mut fmt::Formatter<W>) -> fmt::Result {
         match self {
             Failure::Usage(what, word) => write!(f, "{what} '{word}': --help tells the usage"),
+            Failure::NoFile => f.write_str("no file is named: --help tells the usage"),
             Failure::File(file, error) => write!(f, "{file}: {error}"),
             Failure::Text {
                 file,

@@ -3,7 +3,9 @@ pub mod choices;
 pub mod failure;
 pub mod outline;
 pub mod source;
+pub mod trace;
 
+pub use choices::ChoiceText;
 pub use failure::Failure;
 pub use failure::FailureDisplay;
 pub use source::Program;

@@ -1,7 +1,7 @@
+pub mod Along
 pub mod Cases
-pub mod Unique
+pub mod Fits
 pub mod Fronts
 pub mod Limits
-pub mod Along
+pub mod Unique
 pub mod Whole
-pub mod Fits

@@ -15,7 +15,7 @@ pub data Both (R : At → At → Type 0) : Option At → Option At → Type 0 wh
 pub both-some : {R : At → At → Type 0} {a b : At} → Both R (some a) (some b) → R a b
 both-some (each r) = r
 
--- a word touched
+-- an address touched
 abbrev pub touched : Cache → ℕ → At → At
 touched c w a = record { time = a .time + cost c (a .st) w; st = after c (a .st) w; choices = a .choices }
 

@@ -30,7 +30,7 @@ use Rattle.machine.specs.Playing.{Fit, Ready, Stands, Came, Goes, Observed, he
 use Rattle.machine.proofs.Tellings.{tells-none, tells-as, tells-then}
 use Rattle.machine.proofs.Times.{Quick, cost-bound, play-bound}
 
-abbrev place-at : ℕ → ℕ → ℕ → Place
+abbrev pub place-at : ℕ → ℕ → ℕ → Place
 place-at at time used = record { at = at; time = time; used = used }
 
 -- what is left of a program p, begun at f with the cells xs and K told: the program q at g, with the cells ys and L told, the events done between them

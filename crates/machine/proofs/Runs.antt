@@ -1,4 +1,4 @@
--- A program's runs as a relation, and that they are its plays.
+-- A program's runs as a relation, for inductions, and that they are its plays.
 use mathlib.Core.Path.{_≡_, refl, sym, ap, subst, _∙_}
 use mathlib.Core.Logic.{_↔_, _⊎_, inl, inr, ⊎-elim}
 use mathlib.Core.Bool.{Bool, true, false}
@@ -50,7 +50,7 @@ mutual
   loop-play (more {cs = cs} {m = k} r l) m ds = rw append-assoc (on-then _ _ _ _ (run-play r m (cs ++ ds)) (rw add-assoc at (loop-play l (m + k) ds)))
 
 -- what a play is, taken apart
-on-some : (o : Option At) (f : At → Option At) (b : At) → on o f ≡ some b → (x : At) × (o ≡ some x) × (f x ≡ some b)
+pub on-some : (o : Option At) (f : At → Option At) (b : At) → on o f ≡ some b → (x : At) × (o ≡ some x) × (f x ≡ some b)
 on-some none f b e = absurd (none≢some b e)
   where
     none≢some : (b : At) → none ≡ some b → ⊥

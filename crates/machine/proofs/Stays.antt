@@ -1,4 +1,4 @@
--- A cache stays sound.
+-- A touch keeps a state sound: no line twice, and no more lines in a set than ways.
 use mathlib.Core.Path.{_≡_, refl, sym, ap, subst, _∙_}
 use mathlib.Core.Logic.{_⊎_, inl, inr, ⊎-elim}
 use mathlib.Core.Bool.{Bool, true, false, _||_, _&&_}

@@ -8,16 +8,12 @@ use native.Mathlib.Omega.{arith}
 use Rattle.cycles.specs.Code.{pick, P, work, touch, seq, either, times, skip, Cache}
 use Rattle.cycles.specs.Plays.{At, on, choose, left, which, rounds, play}
 use Rattle.machine.specs.declared.observer.Event.{Event}
+use Rattle.machine.proofs.Runs.{on-some}
 use Rattle.machine.specs.Trace.{trace, then-trace, choose-trace, rounds-trace, cycles-of, sum-cycles}
 
 pub sum-append : (es fs : List Event) → sum-cycles (es ++ fs) ≡ sum-cycles es + sum-cycles fs
 sum-append [] fs = omega arith
 sum-append (e ∷ es) fs = omega (arith, sum-append es fs)
-
--- a play that comes to an end has come to its parts' ends
-on-some : (o : Option At) (f : At → Option At) (b : At) → on o f ≡ some b → (x : At) × (o ≡ some x) × (f x ≡ some b)
-on-some none f b e = absurd (let z : _≡_ {A = ℕ} 0 1 = cc in omega arith)
-on-some (some x) f b e = (x, refl, e)
 
 -- what comes behind, if the first part sums and the rest does
 summed : (a x b : At) (o : Option At) (es : List Event) (g : At → List Event) → o ≡ some x → a .time + sum-cycles es ≡ x .time → x .time + sum-cycles (g x) ≡ b .time → a .time + sum-cycles (es ++ then-trace o g) ≡ b .time

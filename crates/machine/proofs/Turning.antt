@@ -24,6 +24,7 @@ use Rattle.machine.specs.declared.player.Place.{Place}
 use Rattle.machine.specs.Trace.{trace, then-trace, rounds-trace}
 use Rattle.machine.specs.Telling.{Tells}
 use Rattle.machine.specs.Playing.{Fit, Came, here, still}
+use Rattle.machine.proofs.Going.{place-at}
 use Rattle.machine.proofs.Tellings.{tells-none, tells-as, tells-then}
 use Rattle.machine.proofs.Times.{Quick, play-bound}
 
@@ -45,9 +46,6 @@ still-stays c (seq p q) rs a h =
 still-stays c (either p q) rs a h = absurd (both-ways false refl h)
 still-stays c (times n p) rs a h = rounds-stay c p rs a (λ j. still-stays c p (j ∷ rs) a h) n 0
 still-stays c skip rs a h = (refl, refl)
-
-abbrev place-at : ℕ → ℕ → ℕ → Place
-place-at at time used = record { at = at; time = time; used = used }
 
 -- the loop p of n rounds of a, begun at f, is in round i at g
 pub record Turned (c : Cache) (rs : List ℕ) (bs : List Bool) (p a : P) (n i : ℕ) (f : Place) (xs : List ℕ) (K : List Event → Type 0) (g : Place) (ys : List ℕ) (L : List Event → Type 0) : Type 0 where

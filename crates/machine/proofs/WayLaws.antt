@@ -13,7 +13,7 @@ use Rattle.std.specs.declared.option.Option.{Option}
 use Rattle.std.specs.declared.option.Option.the-variants.{Some, None}
 use Rattle.cycles.specs.Code.{among, without}
 use Rattle.machine.specs.Cells.{lines-of, touched-set, last-from, last-of, out-of}
-use Rattle.machine.specs.Places.{Passed}
+use Rattle.machine.specs.Standings.{Passed}
 
 -- the last cell of all goes to the front, and is written over
 pub rotated : (ws : List ℕ) (x : ℕ) → 0 < length ws → set (drop (length ws - 1) ws ++ take (length ws - 1) ws) 0 x ≡ take (length ws) (x ∷ ws)

@@ -1,4 +1,4 @@
--- A wider cache where the newest used stays, and any start beside the empty one.
+-- Under LRU: a cache with more ways beside one with fewer, and any start beside the empty one. Both are one simulation: each set of the one is a front of the same set of the other.
 use mathlib.Core.Path.{_≡_, refl, sym, ap, subst, _∙_}
 use mathlib.Core.Bool.{Bool, true, false, _&&_}
 use mathlib.Core.List.{List, [], _∷_}
@@ -15,14 +15,15 @@ use Rattle.cycles.specs.Says.{Front, Fronts, widened, Sound, Wider-holds, Wider
 use Rattle.machine.proofs.Lists.{by, among-front, use-line, use-front, lines, fronts-at, fronts-put, fronts-empty}
 use Rattle.machine.proofs.Both.{Both, both-some, touched, play-both}
 
--- the same cache with so many lines to a set
+-- the same cache with so many ways to a set
 abbrev pub with-ways : Cache → ℕ → Cache
 with-ways c w = record { sets = c .sets; ways = w; line = c .line; hit = c .hit; miss = c .miss; used = c .used }
 
--- where the newest used stays, a word changes its set by use-line alone
+-- under LRU a touch changes its set by use-line alone
 pub after-used : (c : Cache) (s : St) (a : ℕ) → c .used ≡ true → after c s a ≡ put s (set-of c a) (use-line (c .ways) (line-of c a) (lines s (set-of c a)))
 after-used c s a u = grind arith
 
+-- what the simulation keeps: all lines of the one are in front in the other, which is no slower, by the same choices
 pub record Sim (a b : At) : Type 0 where
   pub fronts : Fronts (a .st) (b .st)
   pub quick : b .time ≤ a .time
@@ -56,13 +57,13 @@ T-right false y t = absurd t
 fair-from : (s : List ℕ) (c : Cache) (p : P) → Reads s c p → c .hit ≤ c .miss
 fair-from s c p r = leb→le (c .hit) (c .miss) (search (T-left, T-right, r .fine) depth 9)
 
--- D
 start : (c d : Cache) (bs : List Bool) (s t : St) → Fronts s t → Sim (record { time = 0; st = s; choices = bs }) (record { time = 0; st = t; choices = bs })
 start c d bs s t f = record { fronts = f; quick = omega arith; same = refl }
 
 ends : (c : Cache) (w : ℕ) (p : P) (bs : List Bool) (m n : ℕ) (s s′ t u : St) → c .used ≡ true → c .ways ≤ w → c .hit ≤ c .miss → Fronts s s′ → Play c p s bs m t → Play (with-ways c w) p s′ bs n u → Sim (record { time = m; st = t; choices = [] }) (record { time = n; st = u; choices = [] })
 ends c w p bs m n s s′ t u used wide fair f x y = both-some (rw (x, y) at (plays-sim c w used wide fair p [] _ _ (start c c bs s s′ f)))
 
+-- the empty caches are fronts of one another
 pub wider-holds : Wider-holds
 wider-holds s c p bs m n t u r used x y =
     ends c (suc (c .ways)) p bs m n (empty c) (empty c) t u used (omega arith) (fair-from s c p r) (fronts-empty (c .sets) (empty c) (length-replicate (c .sets) [])) x y .fronts
@@ -71,7 +72,7 @@ pub wider-never-slower : Wider-never-slower
 wider-never-slower s c p bs m n t u r used fair x y =
     ends c (suc (c .ways)) p bs m n (empty c) (empty c) t u used (omega arith) fair (fronts-empty (c .sets) (empty c) (length-replicate (c .sets) [])) x y .quick
 
--- E
+-- the empty cache is a front of every one with as many sets
 pub empty-is-worst : Empty-is-worst
 empty-is-worst s c p bs m n v t u r used fair sound x y =
     ends c (c .ways) p bs m n (empty c) v t u used (omega arith) fair (fronts-empty (c .sets) v (sound .sets)) x y .quick

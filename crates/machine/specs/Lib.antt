@@ -2,7 +2,7 @@
 pub mod Around
 pub mod Cells
 pub mod Counts
-pub mod Places
 pub mod Playing
+pub mod Standings
 pub mod Telling
 pub mod Trace

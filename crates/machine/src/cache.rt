@@ -5,7 +5,7 @@ ghost use lib.ListN.{length, take, drop, replicate};
 ghost use Rattle.cycles.specs.Code.{Cache, after, among, empty, line-of, pick, set-of, there};
 ghost use Rattle.cycles.specs.Reading.{cache as cacheOf, is-lru};
 ghost use Rattle.machine.specs.Cells.{goes, lines-of, out-of, state-of, touched-set};
-ghost use Rattle.machine.specs.Places.{Placed};
+ghost use Rattle.machine.specs.Standings.{Stood};
 use cycles::geometry::Geometry;
 use cycles::geometry::Policy;
 
@@ -20,7 +20,7 @@ pub struct Touched {
 
 // Where a line stands in its set.
 #[derive(Clone, Copy)]
-enum Place {
+enum Standing {
     // in this way
     Held(usize),
     // nowhere, and a way is empty
@@ -37,20 +37,20 @@ struct Outcome {
 }
 
 // Where the line stands; the ways behind an empty one hold nothing.
-fn place_of(ways: &[u32], line: u32) -> Place
+fn standing_of(ways: &[u32], line: u32) -> Standing
     requires { ⌜ line < 4294967295 ⌝ }
-    ensures { λ r. ⌜ Placed (now (ways .entry)) line r ⌝ }
+    ensures { λ r. ⌜ Stood (now (ways .entry)) line r ⌝ }
 {
     let cell = line + 1;
     for (place, way) in ways.iter().enumerate() {
         if *way == cell {
-            return Place::Held(place);
+            return Standing::Held(place);
         }
         if *way == 0 {
-            return Place::Free;
+            return Standing::Free;
         }
     }
-    Place::Full
+    Standing::Full
 }
 
 // Writes a cell in front of the others, and the last goes.
@@ -70,18 +70,18 @@ fn touch_set(ways: &mut [u32], line: u32, policy: Policy) -> Outcome
     ensures hit { λ r. ⌜ r .hit ≡ among line (lines-of (now (ways .entry))) ⌝ }
     ensures evicted { λ r. ⌜ r .evicted ≡ out-of (length (now (ways .entry))) line (lines-of (now (ways .entry))) ⌝ }
 {
-    let (hit, evicted) = match place_of(ways, line) {
-        Place::Held(place) => {
+    let (hit, evicted) = match standing_of(ways, line) {
+        Standing::Held(place) => {
             if let Policy::Lru = policy {
                 push_front(&mut ways[0..place + 1], line + 1);
             }
             (true, None)
         }
-        Place::Free => {
+        Standing::Free => {
             push_front(ways, line + 1);
             (false, None)
         }
-        Place::Full => {
+        Standing::Full => {
             let last = ways[ways.len() - 1] - 1;
             push_front(ways, line + 1);
             (false, Some(last))

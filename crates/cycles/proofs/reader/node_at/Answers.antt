@@ -11,10 +11,8 @@ use Rattle.cycles.specs.declared.node.Node.{Node}
 use Rattle.cycles.specs.declared.fault.Fault.{Fault}
 use Rattle.cycles.specs.declared.fault.Rule.{Rule}
 use Rattle.cycles.specs.Reading.{Begins, Breaks, None-begins}
+use Rattle.cycles.proofs.Fits.{begins-rest}
 use Rattle.cycles.proofs.reader.node_at.Needs as need
-
-begins-rest : (ws : List ℕ) (at : ℕ) (r : Result Node Rule) → Begins (take (length ws - at) (drop at ws)) r → Begins (drop at ws) r
-begins-rest ws at r b = subst (λ xs. Begins xs r) (take-rest ws at) b
 
 -- a rule that is broken behind the words before a place is broken there
 at-place : (ws : List ℕ) (at k : ℕ) (e : Rule) → at ≤ length ws → Breaks (take at ws ++ drop at ws) (length (take at ws) + k) e → Breaks ws (at + k) e

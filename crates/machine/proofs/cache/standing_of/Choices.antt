@@ -1,5 +1,5 @@
-use Rattle.machine.specs.Places.{Passed}
-use Rattle.machine.proofs.cache.place_of.Given as given
+use Rattle.machine.specs.Standings.{Passed}
+use Rattle.machine.proofs.cache.standing_of.Given as given
 
 abbrev pub Inv-loop-place : given.InvT-loop-place
 Inv-loop-place l = Passed (l .ways) (l .line) (l .place)

@@ -2,7 +2,7 @@ use mathlib.Core.Path.{_∙_}
 use native.Mathlib.Omega.{arith}
 use native.Mathlib.Numerals.{add-one}
 use Rattle.machine.proofs.WayLaws.{passed-none, passed-more, passed-free, passed-all}
-use Rattle.machine.proofs.cache.place_of.Needs as need
+use Rattle.machine.proofs.cache.standing_of.Needs as need
 
 pub loop-place-holds : need.loop-place-holds
 loop-place-holds c = passed-none (c .args .ways .now) (c .args .line)
