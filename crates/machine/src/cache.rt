@@ -2,7 +2,7 @@ ghost use mathlib.Core.List.{_∷_};
 ghost use mathlib.Core.Path.{_≡_};
 ghost use Prim.Native.Nat.{_*_, _<_, _≤_};
 ghost use lib.ListN.{length, take, drop, replicate};
-ghost use Rattle.cycles.specs.Code.{Cache, after, among, empty, line-of, pick, set-of, there};
+ghost use Rattle.cycles.specs.Code.{Cache, after, among, cost, empty, line-of, pick, set-of, there};
 ghost use Rattle.cycles.specs.Reading.{cache as cacheOf, is-lru};
 ghost use Rattle.machine.specs.Cells.{goes, lines-of, out-of, state-of, touched-set};
 ghost use Rattle.machine.specs.Standings.{Stood};
@@ -15,6 +15,7 @@ pub struct Touched {
     pub hit: bool,
     pub line: u32,
     pub set: u32,
+    pub cycles: u32,
     pub evicted: Option<u32>,
 }
 
@@ -96,6 +97,7 @@ pub fn touch(cells: &mut [u32], cache: Geometry, address: u32) -> Touched
     requires cells { ⌜ cache .sets * cache .ways ≤ length (now cells) ⌝ }
     ensures after { λ _. ⌜ state-of (cacheOf cache) (now (cells .exit)) ≡ after (cacheOf cache) (state-of (cacheOf cache) (now (cells .entry))) address ⌝ }
     ensures hit { λ r. ⌜ r .hit ≡ there (cacheOf cache) (state-of (cacheOf cache) (now (cells .entry))) address ⌝ }
+    ensures cycles { λ r. ⌜ r .cycles ≡ cost (cacheOf cache) (state-of (cacheOf cache) (now (cells .entry))) address ⌝ }
     ensures line { λ r. ⌜ r .line ≡ line-of (cacheOf cache) address ⌝ }
     ensures set { λ r. ⌜ r .set ≡ set-of (cacheOf cache) address ⌝ }
     ensures evicted { λ r. ⌜ r .evicted ≡ goes (cacheOf cache) (state-of (cacheOf cache) (now (cells .entry))) address ⌝ }
@@ -110,6 +112,7 @@ pub fn touch(cells: &mut [u32], cache: Geometry, address: u32) -> Touched
         hit: outcome.hit,
         line,
         set,
+        cycles: cycles(cache, outcome.hit),
         evicted: outcome.evicted,
     }
 }
@@ -123,7 +126,7 @@ pub fn clear(cells: &mut [u32])
 }
 
 // The cycles of a hit or of a miss.
-pub fn cycles(cache: Geometry, hit: bool) -> u32
+fn cycles(cache: Geometry, hit: bool) -> u32
     ensures { λ r. ⌜ r ≡ pick hit (cacheOf cache .hit) (cacheOf cache .miss) ⌝ }
 {
     if hit { cache.hit } else { cache.miss }

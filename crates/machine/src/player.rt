@@ -7,7 +7,6 @@ ghost use Rattle.cycles.specs.Reading.{Begins, cache as cache-of};
 ghost use Rattle.machine.specs.Around.{around};
 ghost use Rattle.machine.specs.Playing.{Goes, Observed, PlayPost, Ready};
 use crate::cache::clear;
-use crate::cache::cycles;
 use crate::cache::touch;
 use crate::observer::Access;
 use crate::observer::Observer;
@@ -87,7 +86,7 @@ fn observe_touch<O: Observer>(
     ensures { λ r. ⌜ Observed (cache-of cache) address start (now (cells .entry)) (now (cells .exit)) (told (now (observer .entry))) (told (now (observer .exit))) r ⌝ }
 {
     let touched = touch(cells, cache, address);
-    let cycles = cycles(cache, touched.hit);
+    let cycles = touched.cycles;
     observer.touch(Access {
         start,
         address,

@@ -1,9 +1,9 @@
-use mathlib.Core.Path.{_≡_, refl}
+use mathlib.Core.Path.{_≡_, refl, ap, _∙_}
 use Prim.Native.Nat.{ℕ, _+_, _-_, _*_, _%_, _<_, _≤_}
 use native.Mathlib.Omega.{arith}
 use native.Mathlib.Nat.{mod-lt}
 use borrow.Author.Needs.{needs}
-use Rattle.cycles.specs.Code.{Cache, set-of}
+use Rattle.cycles.specs.Code.{Cache, pick, set-of}
 use Rattle.cycles.specs.Reading.{cache}
 use Rattle.machine.proofs.CellLaws.{within, hit-at, goes-at, after-at, behind-at}
 use Rattle.machine.proofs.cache.touch.Needs as need
@@ -28,9 +28,11 @@ returns c =
     let from : ℕ = set-of g (c .args .address) * g .ways in
     let w : from + g .ways - from ≡ g .ways = omega arith in
     let o = c .touch-set-outcome .ensures in
+    let hit = hit-at g (c .args .cells .now) (c .args .address) (from + g .ways - from) i (c .pre .cells) w _ (o .hit) in
     record {
       after = after-at g (c .args .cells .now) (c .args .address) (from + g .ways - from) i (c .pre .cells) w (c .touch-set-outcome .last .ways) (c .touch-set-outcome .kept .ways) (o .after);
-      hit = hit-at g (c .args .cells .now) (c .args .address) (from + g .ways - from) i (c .pre .cells) w _ (o .hit);
+      hit = hit;
+      cycles = c .cycles .ensures ∙ ap (λ b. pick b (g .hit) (g .miss)) hit;
       line = refl;
       set = refl;
       evicted = goes-at g (c .args .cells .now) (c .args .address) (from + g .ways - from) i (c .pre .cells) w _ (o .evicted);
