@@ -4,6 +4,7 @@ pub mod CellLaws
 pub mod Going
 pub mod Lists
 pub mod Runs
+pub mod States
 pub mod Stays
 pub mod Sums
 pub mod Surveys
