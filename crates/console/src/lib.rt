@@ -1,4 +1,6 @@
 // What the programs share: reading a listing, saying what is wrong, and showing a program.
+#![tactic(auto)]
+
 pub mod choices;
 pub mod failure;
 pub mod outline;

@@ -1,4 +1,6 @@
 // Listings: programs as text, decimal numbers with white space between them, read piece by piece into words.
+#![tactic(auto)]
+
 pub mod marks;
 pub mod text;
 

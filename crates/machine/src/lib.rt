@@ -1,4 +1,6 @@
 // The machine, step by step: the cache in lent words, and a program played by its choices.
+#![tactic(auto)]
+
 pub mod cache;
 pub mod observer;
 pub mod player;

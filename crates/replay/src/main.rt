@@ -1,4 +1,6 @@
 // `replay FILE` plays the program in FILE by choices from standard input, and shows each touch.
+#![tactic(auto)]
+
 use console::source::read_choices;
 use console::trace::{Printer, write_header, write_total};
 use console::{ChoiceText, Failure, Program, Room, Source};

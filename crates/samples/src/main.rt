@@ -1,5 +1,7 @@
 // For the gate: shows each file that is named, says of each line of standard input, a listing of its own, what it is,
 // and plays the file that a line @FILE CHOICES names.
+#![tactic(auto)]
+
 use console::outline::{write_cache, write_program};
 use console::trace::write_total;
 use console::{ChoiceText, Failure, Room, Source};

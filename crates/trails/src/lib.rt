@@ -1,4 +1,6 @@
 // What is told of a play as it goes on: its cycles, how many choices it had, and which, in lent words.
+#![tactic(auto)]
+
 pub mod telling;
 pub mod trail;
 

@@ -1,4 +1,6 @@
 // `wcet [FILE]` shows the cache and the program that the words of FILE, or of standard input, are.
+#![tactic(auto)]
+
 use console::outline::{write_cache, write_program};
 use console::{Failure, Room, Source};
 use std::env;

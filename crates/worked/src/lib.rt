@@ -1,4 +1,6 @@
 // The tables behind worked programs, entry by entry, and their times.
+#![tactic(auto)]
+
 #[cfg(test)]
 mod tests {
     use cycles::Timed;
