@@ -4,7 +4,7 @@ use borrow.Author.Tests.{eqb-false}
 use Rattle.std.proofs.lemmas.List.{take_rest}
 use Rattle.cycles.proofs.Fronts.{missing, work_cut, loop_cut, touch_cut, unknown, touched}
 use Rattle.cycles.proofs.node.first_node.Goals as goal
-use Rattle.cycles.proofs.node.first_node.Goals.{then-words-lt2+in-default·, else-words-lt2+then-words-lt3+in-default·, else-words-lt2+else-words-lt3+in-default·, then-words-lt2+in-1·, else-words-lt2+then-words-lt3+in-1·}
+use Rattle.cycles.proofs.node.first_node.Goals.{then-words-lt2+in_default-1, else-words-lt2+then-words-lt3+in_default-1, else-words-lt2+else-words-lt3+in_default-1, then-words-lt2+in-1-1, else-words-lt2+then-words-lt3+in-1-1}
 
 pub returns-then-count-rest : goal.returns-then-count-rest
 returns-then-count-rest c =
@@ -25,8 +25,8 @@ returns-else-count-rest c =
 
 pub returns-in-len1-up : goal.returns-in-len1-up
 returns-in-len1-up c =
-    unknown _ (elim c.in-len1-up·.branch [ then-words-lt2+in-default· w ↦ omega (arith, tests, ltb-false, eqb-true, eqb-false) | else-words-lt2+then-words-lt3+in-default· w ↦ omega (arith, tests, ltb-false, eqb-true, eqb-false) | else-words-lt2+else-words-lt3+in-default· w ↦ omega (arith, tests, ltb-false, eqb-true, eqb-false) ])
+    unknown _ (elim c.in-len1-up-1.branch [ then-words-lt2+in_default-1 w ↦ omega (arith, tests, ltb-false, eqb-true, eqb-false) | else-words-lt2+then-words-lt3+in_default-1 w ↦ omega (arith, tests, ltb-false, eqb-true, eqb-false) | else-words-lt2+else-words-lt3+in_default-1 w ↦ omega (arith, tests, ltb-false, eqb-true, eqb-false) ])
 
 pub returns-in-1-2 : goal.returns-in-1-2
 returns-in-1-2 c =
-    touch_cut _ (elim c.in-1-2·.branch [ then-words-lt2+in-1· w ↦ omega (arith, tests, ltb-false, eqb-true, eqb-false) | else-words-lt2+then-words-lt3+in-1· w ↦ omega (arith, tests, ltb-false, eqb-true, eqb-false) ]) (omega (arith, tests, ltb-false)) (λ h. elim c.in-1-2·.branch [ then-words-lt2+in-1· w ↦ omega (arith, tests, ltb-false, eqb-true, eqb-false) | else-words-lt2+then-words-lt3+in-1· w ↦ omega (arith, tests, ltb-false, eqb-true, eqb-false) ])
+    touch_cut _ (elim c.in-1-2-1.branch [ then-words-lt2+in-1-1 w ↦ omega (arith, tests, ltb-false, eqb-true, eqb-false) | else-words-lt2+then-words-lt3+in-1-1 w ↦ omega (arith, tests, ltb-false, eqb-true, eqb-false) ]) (omega (arith, tests, ltb-false)) (λ h. elim c.in-1-2-1.branch [ then-words-lt2+in-1-1 w ↦ omega (arith, tests, ltb-false, eqb-true, eqb-false) | else-words-lt2+then-words-lt3+in-1-1 w ↦ omega (arith, tests, ltb-false, eqb-true, eqb-false) ])

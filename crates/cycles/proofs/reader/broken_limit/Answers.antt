@@ -8,25 +8,25 @@ returns-else-cycles-lt-LIMIT c us ws b' =
     ((behind us ws 1 _ (ap (λ xs. get_or xs 1 0) b), c.if-cycles-lt-LIMIT.false), work_over ws c.args.loops c.args.depth _ b c.if-cycles-lt-LIMIT.false, omega (arith, ap length b))
 
 pub returns-in-Touch : goal.returns-in-Touch
-returns-in-Touch c = judges_as c.args.loops c.args.depth _ _ c.broken-touch.result c.in-Touch.is (c.broken-touch.ensures c.args.depth)
+returns-in-Touch c = judges_as c.args.loops c.args.depth _ _ c.broken_touch.result c.in-Touch.is (c.broken_touch.ensures c.args.depth)
 
 pub returns-in-Seq : goal.returns-in-Seq
-returns-in-Seq c = judges_as c.args.loops c.args.depth _ _ c.broken-depth.result c.in-Seq.is (judge_seq _ _ _ c.broken-depth.ensures)
+returns-in-Seq c = judges_as c.args.loops c.args.depth _ _ c.broken_depth.result c.in-Seq.is (judge_seq _ _ _ c.broken_depth.ensures)
 
 pub returns-in-Either : goal.returns-in-Either
 returns-in-Either c =
-    judges_as c.args.loops c.args.depth _ _ c.broken-depth-in-Either.result c.in-Either.is (judge_either _ _ _ c.broken-depth-in-Either.ensures)
+    judges_as c.args.loops c.args.depth _ _ c.broken_depth-in-Either.result c.in-Either.is (judge_either _ _ _ c.broken_depth-in-Either.ensures)
 
-pub returns-then-rounds-gt-MOST-ROUNDS : goal.returns-then-rounds-gt-MOST-ROUNDS
-returns-then-rounds-gt-MOST-ROUNDS c us ws b' =
+pub returns-then-rounds-gt-MOST_ROUNDS : goal.returns-then-rounds-gt-MOST_ROUNDS
+returns-then-rounds-gt-MOST_ROUNDS c us ws b' =
     let b = begins_as ws c.in-Loop.is b' in
-    ((behind us ws 1 _ (ap (λ xs. get_or xs 1 0) b), c.if-rounds-gt-MOST-ROUNDS.true), (λ p r e o s. let k = loop_keeps ws c.args.loops c.args.depth _ b p r e o s in omega arith), omega (arith, ap length b))
+    ((behind us ws 1 _ (ap (λ xs. get_or xs 1 0) b), c.if-rounds-gt-MOST_ROUNDS.true), (λ p r e o s. let k = loop_keeps ws c.args.loops c.args.depth _ b p r e o s in omega arith), omega (arith, ap length b))
 
-pub returns-then-loops-ge-MOST-LOOPS : goal.returns-then-loops-ge-MOST-LOOPS
-returns-then-loops-ge-MOST-LOOPS c us ws b' =
+pub returns-then-loops-ge-MOST_LOOPS : goal.returns-then-loops-ge-MOST_LOOPS
+returns-then-loops-ge-MOST_LOOPS c us ws b' =
     let b = begins_as ws c.in-Loop.is b' in
     (sym (behind us ws 0 4 (ap (λ xs. get_or xs 0 0) b)), (λ p r e o s. let k = loop_keeps ws c.args.loops c.args.depth _ b p r e o s in omega arith), omega (arith, ap length b))
 
-pub returns-else-loops-ge-MOST-LOOPS : goal.returns-else-loops-ge-MOST-LOOPS
-returns-else-loops-ge-MOST-LOOPS c =
-    judges_as c.args.loops c.args.depth _ _ c.broken-depth-in-Loop.result c.in-Loop.is (judge_loop _ _ _ c.broken-depth-in-Loop.ensures _ c.if-rounds-gt-MOST-ROUNDS.false c.if-loops-ge-MOST-LOOPS.false)
+pub returns-else-loops-ge-MOST_LOOPS : goal.returns-else-loops-ge-MOST_LOOPS
+returns-else-loops-ge-MOST_LOOPS c =
+    judges_as c.args.loops c.args.depth _ _ c.broken_depth-in-Loop.result c.in-Loop.is (judge_loop _ _ _ c.broken_depth-in-Loop.ensures _ c.if-rounds-gt-MOST_ROUNDS.false c.if-loops-ge-MOST_LOOPS.false)

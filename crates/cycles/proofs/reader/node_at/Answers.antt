@@ -13,8 +13,8 @@ at_place ws at k e h b =
     let l : length (take at ws) ≡ at = simp length-take (omega arith) in
     subst (λ n. Breaks ws (n + k) e) l (subst (λ xs. Breaks xs (length (take at ws) + k) e) (take-append-drop at ws) b)
 
-pub overflow-add-place : goal.overflow-add-place
-overflow-add-place c =
+pub overflow_add-place : goal.overflow_add-place
+overflow_add-place c =
     let b = begins_rest c.args.words.now c.args.at (Ok c.in-Ok.node) c.in-Ok.ensures in
     let j = c.in-Some.ensures (take c.args.at c.args.words.now) (drop c.args.at c.args.words.now) b in
     omega (arith, j.2, length-drop c.args.at c.args.words.now)

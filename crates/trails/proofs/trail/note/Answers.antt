@@ -26,13 +26,13 @@ returns-then-not-whole c =
       keeps = λ a t bs h w. (h, w);
     }
 
-pub returns-then-head-has-room : goal.returns-then-head-has-room
-returns-then-head-has-room c =
+pub returns-then-head_has_room : goal.returns-then-head_has_room
+returns-then-head_has_room c =
     let a = c.args.first.0 in
     let b = c.args.choice in
     let s = take c.args.top c.args.store.now in
     let t = c.args.telling.now in
-    let n : Noted a s s t c.add.new.telling b = subst (λ (x : Telling). Noted a s s t x b) (sym c.add.ensures) (added_noted a s t b c.requires.sound c.if-not-whole.ensures c.if-head-has-room.ensures) in
+    let n : Noted a s s t c.add.new.telling b = subst (λ (x : Telling). Noted a s s t x b) (sym c.add.ensures) (added_noted a s t b c.requires.sound c.if-not-whole.ensures c.if-head_has_room.ensures) in
     record {
       above = omega arith;
       few = omega arith;
@@ -47,12 +47,12 @@ returns-then-head-has-room c =
       keeps = λ a t bs h w. (h, w);
     }
 
-pub returns-then-not-store-has-room : goal.returns-then-not-store-has-room
-returns-then-not-store-has-room c =
+pub returns-then-not-store_has_room : goal.returns-then-not-store_has_room
+returns-then-not-store_has_room c =
     let a = c.args.first.0 in
     let s = take c.args.top c.args.store.now in
     let t = c.args.telling.now in
-    let f = c.if-head-has-room.ensures in
+    let f = c.if-head_has_room.ensures in
     let n = counted_noted a s t c.args.choice c.requires.sound (inr (omega (arith, f.0, f.1), f.1)) in
     record {
       above = omega arith;
@@ -62,7 +62,7 @@ returns-then-not-store-has-room c =
       rest = refl;
       time = refl;
       counts = refl;
-      records = λ w r. absurd (⊎_elim (λ e. omega (arith, f.0)) (λ r. ⊎_elim (λ k. k f.1) c.if-not-store-has-room.ensures r) r);
+      records = λ w r. absurd (⊎_elim (λ e. omega (arith, f.0)) (λ r. ⊎_elim (λ k. k f.1) c.if-not-store_has_room.ensures r) r);
       sound = n.sound;
       tells = n.tells;
       keeps = λ a t bs h w. (h, w);
@@ -76,8 +76,8 @@ returns c =
     let st = c.args.store.now in
     let st' = c.shelve.new.store in
     let t = c.args.telling.now in
-    let f = c.if-head-has-room.ensures in
-    let room = c.if-not-store-has-room.ensures in
+    let f = c.if-head_has_room.ensures in
+    let room = c.if-not-store_has_room.ensures in
     let l : length (take top st) ≡ top = length-take-le top st c.requires.within in
     let is : c.add-2.new.telling ≡ added (shelved (length (take top st)) (counted t)) b = c.add-2.ensures ∙ ap (λ (u : Telling). added u b) (c.shelve.ensures.telling ∙ sym (ap (λ p. shelved p (counted t)) l)) in
     let n : Noted a (take top st) (take (top + 2) st') t c.add-2.new.telling b = rw (c.shelve.ensures.front, is) (shelved_noted a (take top st) t b c.requires.sound c.if-not-whole.ensures f.0 f.1 room.2) in

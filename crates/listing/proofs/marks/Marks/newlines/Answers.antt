@@ -3,19 +3,19 @@ use Rattle.listing.specs.Packed.{marks_of}
 use Rattle.listing.proofs.Bits.{length_marks}
 use Rattle.listing.proofs.Counts.{newlines_more, newlines_same, newlines_end}
 use Rattle.listing.proofs.marks.Marks.newlines.Goals as goal
-use Rattle.listing.proofs.marks.Marks.newlines.Goals.{then-is-newline, else-is-newline}
+use Rattle.listing.proofs.marks.Marks.newlines.Goals.{then-is_newline, else-is_newline}
 
 pub loop-at-preserved : goal.loop-at-preserved
 loop-at-preserved c =
     let ms = marks_of c.args.self.now in
-    elim c.if-is-newline.branch [
-      | then-is-newline w ↦ (
+    elim c.if-is_newline.branch [
+      | then-is_newline w ↦ (
         omega (arith, w.newlines-is),
-        omega (arith, w.newlines-is, newlines_more ms c.loop-at.at (omega arith) (sym w.if-is-newline.true ∙ c.is-newline.ensures)),
+        omega (arith, w.newlines-is, newlines_more ms c.loop-at.at (omega arith) (sym w.if-is_newline.true ∙ c.is_newline.ensures)),
       )
-      | else-is-newline w ↦ (
+      | else-is_newline w ↦ (
         omega (arith, w.newlines-is),
-        omega (arith, w.newlines-is, newlines_same ms c.loop-at.at (omega arith) (sym w.if-is-newline.false ∙ c.is-newline.ensures)),
+        omega (arith, w.newlines-is, newlines_same ms c.loop-at.at (omega arith) (sym w.if-is_newline.false ∙ c.is_newline.ensures)),
       )
     ]
 

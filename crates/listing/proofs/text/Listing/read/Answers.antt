@@ -8,22 +8,22 @@ pub returns-in-Between : goal.returns-in-Between
 returns-in-Between c =
     let s = c.args.self.now in
     record {
-      came = subst (λ (out : Result Text Flaw). Came c.read-between.result (shown s) (shown c.read-between.new.self) out) (sym (step_between (limits_of s) (shown s) c.args.byte c.in-Between.is)) c.read-between.ensures.came;
-      limits = c.read-between.ensures.limits;
+      came = subst (λ (out : Result Text Flaw). Came c.read_between.result (shown s) (shown c.read_between.new.self) out) (sym (step_between (limits_of s) (shown s) c.args.byte c.in-Between.is)) c.read_between.ensures.came;
+      limits = c.read_between.ensures.limits;
     }
 
 pub returns-in-Number : goal.returns-in-Number
 returns-in-Number c =
     let s = c.args.self.now in
     record {
-      came = subst (λ (out : Result Text Flaw). Came c.read-in-number.result (shown s) (shown c.read-in-number.new.self) out) (sym (step_number (limits_of s) (shown s) c.args.byte c.in-Number.value c.in-Number.is)) c.read-in-number.ensures.came;
-      limits = c.read-in-number.ensures.limits;
+      came = subst (λ (out : Result Text Flaw). Came c.read_in_number.result (shown s) (shown c.read_in_number.new.self) out) (sym (step_number (limits_of s) (shown s) c.args.byte c.in-Number.value c.in-Number.is)) c.read_in_number.ensures.came;
+      limits = c.read_in_number.ensures.limits;
     }
 
 pub returns-in-Comment : goal.returns-in-Comment
 returns-in-Comment c =
     let s = c.args.self.now in
     record {
-      came = subst (λ (out : Result Text Flaw). Came c.read-in-comment.result (shown s) (shown c.read-in-comment.new.self) out) (sym (step_comment (limits_of s) (shown s) c.args.byte c.in-Comment.is)) c.read-in-comment.ensures.came;
-      limits = c.read-in-comment.ensures.limits;
+      came = subst (λ (out : Result Text Flaw). Came c.read_in_comment.result (shown s) (shown c.read_in_comment.new.self) out) (sym (step_comment (limits_of s) (shown s) c.args.byte c.in-Comment.is)) c.read_in_comment.ensures.came;
+      limits = c.read_in_comment.ensures.limits;
     }
