@@ -22,7 +22,7 @@ import sys
 SIGNATURE = re.compile(r"^\s*(?:abbrev |unfoldable )?(?:pub )?(?:abbrev |unfoldable |data |record )?(?:pub )?([^\s(){}.;,:]+)\s*(?:\([^=]*)?:\s(.*)$")
 # A name ends where neither a letter, a digit, nor a sign that names may hold stands.
 PART = r"[\w\-'′·+]"
-ALIASES = {"cacheOf": "cache_of"}
+ALIASES = {"cacheOf": "cache_of", "cache-of": "cache_of"}
 
 
 def declared():

@@ -1,6 +1,6 @@
 ghost use Rattle.std.specs.Prelude.{◌≡◌, ◌+◌, ◌*◌, ◌<◌, ◌≤◌, length, drop, Ok};
 ghost use Rattle.cycles.specs.declared.node.Node.TheVariants.{Either, Loop};
-ghost use Rattle.cycles.specs.Reading.{Begins, cache as cache-of};
+ghost use Rattle.cycles.specs.Reading.{Begins, cache as cache_of};
 ghost use Rattle.machine.specs.Around.{around};
 ghost use Rattle.machine.specs.Playing.{Goes, Observed, PlayPost, Ready};
 
@@ -78,7 +78,7 @@ fn observe_touch<O: Observer>(
 ) -> u32
     requires low { address < 4294967295 }
     requires cells { cache.sets * cache.ways ≤ length cells.old }
-    ensures { Observed (cache-of cache) address start cells.old cells.new (told observer.old) (told observer.new) result }
+    ensures { Observed (cache_of cache) address start cells.old cells.new (O.told observer.old) (O.told observer.new) result }
 {
     let touched = touch(cells, cache, address);
     let cycles = touched.cycles;
@@ -106,7 +106,7 @@ fn go<O: Observer>(
     requires ready { Ready game.words.now rounds.depth from }
     requires used { from.used ≤ length game.choices.now }
     requires cells { game.cache.sets * game.cache.ways ≤ length cells.old }
-    ensures { Goes (cache-of game.entry.cache) (around rounds.at rounds.depth) rounds.depth game.entry.choices.now game.entry.words.now from cells.old cells.new (told observer.old) (told observer.new) result }
+    ensures { Goes (cache_of game.entry.cache) (around rounds.at rounds.depth) rounds.depth game.entry.choices.now game.entry.words.now from cells.old cells.new (O.told observer.old) (O.told observer.new) result }
 {
     let mut here = from;
     loop {
@@ -144,7 +144,7 @@ fn go_either<O: Observer>(
     requires used { from.used ≤ length game.choices.now }
     requires cells { game.cache.sets * game.cache.ways ≤ length cells.old }
     requires either { Begins (drop from.at game.words.now) (Ok Either) }
-    ensures { Goes (cache-of game.entry.cache) (around rounds.at rounds.depth) rounds.depth game.entry.choices.now game.entry.words.now from cells.old cells.new (told observer.old) (told observer.new) result }
+    ensures { Goes (cache_of game.entry.cache) (around rounds.at rounds.depth) rounds.depth game.entry.choices.now game.entry.words.now from cells.old cells.new (O.told observer.old) (O.told observer.new) result }
 {
     let choices = game.choices;
     let number = from.used;
@@ -180,7 +180,7 @@ fn go_rounds<O: Observer>(
     requires used { from.used ≤ length game.choices.now }
     requires cells { game.cache.sets * game.cache.ways ≤ length cells.old }
     requires rounds { Begins (drop from.at game.words.now) (Ok (Loop count)) }
-    ensures { Goes (cache-of game.entry.cache) (around rounds.at rounds.depth) rounds.depth game.entry.choices.now game.entry.words.now from cells.old cells.new (told observer.old) (told observer.new) result }
+    ensures { Goes (cache_of game.entry.cache) (around rounds.at rounds.depth) rounds.depth game.entry.choices.now game.entry.words.now from cells.old cells.new (O.told observer.old) (O.told observer.new) result }
 {
     let start = from.at + 2;
     let body = look_over(game.words, start);
@@ -201,7 +201,7 @@ pub fn play<'a, O: Observer>(
     cells: &mut [u32],
     observer: &mut O,
 ) -> Played
-    ensures { PlayPost words.now choices.now (length cells.old) (told observer.old) (told observer.new) result }
+    ensures { PlayPost words.now choices.now (length cells.old) (O.told observer.old) (O.told observer.new) result }
 {
     let Ok(cache) = read(words) else {
         return Played::NoProgram;

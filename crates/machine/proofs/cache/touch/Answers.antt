@@ -13,8 +13,8 @@ in_sets c a h = mod-lt _ h
 within_any : (n w x : ℕ) → 1 ≤ n → x % n * w + w ≤ n * w
 within_any n w x h = within n w (x % n) (mod-lt x h)
 
-pub slice-bounds-touch-set-end : goal.slice-bounds-touch-set-end
-slice-bounds-touch-set-end c =
+pub slice_bounds-touch_set-end : goal.slice_bounds-touch_set-end
+slice_bounds-touch_set-end c =
     let h : 1 ≤ c.args.cache.sets = c.args.cache.sets_fit.0 in
     search (rules, within_any)
 
@@ -24,15 +24,15 @@ returns c =
     let i = in_sets g c.args.address c.args.cache.sets_fit.0 in
     let from : ℕ = set_of g c.args.address * g.ways in
     let w : from + g.ways - from ≡ g.ways = omega arith in
-    let o = c.touch-set-outcome.ensures in
+    let o = c.touch_set-outcome.ensures in
     let hit = hit_at g c.args.cells.now c.args.address (from + g.ways - from) i c.requires.cells w _ o.hit in
     record {
-      after = after_at g c.args.cells.now c.args.address (from + g.ways - from) i c.requires.cells w c.touch-set-outcome.new.ways c.touch-set-outcome.auto.ways o.after;
+      after = after_at g c.args.cells.now c.args.address (from + g.ways - from) i c.requires.cells w c.touch_set-outcome.new.ways c.touch_set-outcome.auto.ways o.after;
       hit = hit;
       cycles = c.cycles.ensures ∙ ap (λ b. pick b g.hit g.miss) hit;
       line = refl;
       set = refl;
       evicted = goes_at g c.args.cells.now c.args.address (from + g.ways - from) i c.requires.cells w _ o.evicted;
-      tidy = tidy_touched g c.args.cells.now c.args.address (from + g.ways - from) i c.requires.cells w c.touch-set-outcome.new.ways c.touch-set-outcome.auto.ways o.tidy;
-      behind = behind_at g c.args.cells.now c.args.address (from + g.ways - from) i c.requires.cells w c.touch-set-outcome.new.ways c.touch-set-outcome.auto.ways;
+      tidy = tidy_touched g c.args.cells.now c.args.address (from + g.ways - from) i c.requires.cells w c.touch_set-outcome.new.ways c.touch_set-outcome.auto.ways o.tidy;
+      behind = behind_at g c.args.cells.now c.args.address (from + g.ways - from) i c.requires.cells w c.touch_set-outcome.new.ways c.touch_set-outcome.auto.ways;
     }

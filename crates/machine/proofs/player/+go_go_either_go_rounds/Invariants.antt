@@ -11,11 +11,11 @@ use Rattle.machine.proofs.player.+go_go_either_go_rounds.Given as goal
 abbrev pub decreases-go : goal.decreases-go
 decreases-go g l = 2 * (length l.game.words.now - l.from.at) + 1
 
-abbrev pub decreases-go-either : goal.decreases-go-either
-decreases-go-either g l = 2 * (length l.game.words.now - l.from.at)
+abbrev pub decreases-go_either : goal.decreases-go_either
+decreases-go_either g l = 2 * (length l.game.words.now - l.from.at)
 
-abbrev pub decreases-go-rounds : goal.decreases-go-rounds
-decreases-go-rounds g l = 2 * (length l.game.words.now - l.from.at)
+abbrev pub decreases-go_rounds : goal.decreases-go_rounds
+decreases-go_rounds g l = 2 * (length l.game.words.now - l.from.at)
 
 abbrev pub invariant-go-loop-cycles : goal.invariant-go-loop-cycles
 invariant-go-loop-cycles g l =
@@ -26,7 +26,7 @@ invariant-go-loop-cycles g l =
 abbrev pub decreases-go-loop-cycles : goal.decreases-go-loop-cycles
 decreases-go-loop-cycles g l = length l.game.words.now - l.here.at
 
-abbrev pub invariant-go-rounds-loop-round : goal.invariant-go-rounds-loop-round
-invariant-go-rounds-loop-round g l =
+abbrev pub invariant-go_rounds-loop-round : goal.invariant-go_rounds-loop-round
+invariant-go_rounds-loop-round g l =
     (l.here.used ≤ length l.game.choices.now)
     × ((p a : P) (rest : List ℕ) → Fit l.game.words.now l.rounds.depth l.initial.here p rest → p ≡ times l.count a → Turned (cache l.game.cache) (around l.rounds.at l.rounds.depth) l.game.choices.now p a l.count l.round l.initial.here l.initial.cells (g.O.Observer.told l.initial.observer) l.here l.cells (g.O.Observer.told l.observer))

@@ -6,8 +6,8 @@ use Rattle.machine.proofs.Tellings.{tells_none}
 use Rattle.machine.proofs.Told.{promised, start_fit, told_whole, told_left_over, told_ran_out}
 use Rattle.machine.proofs.player.play.Goals as goal
 
-pub returns-in-default : goal.returns-in-default
-returns-in-default g c = promised _ _ _ _ _ _ (c.in-default.ensures.says.1, tells_none _)
+pub returns-in_default : goal.returns-in_default
+returns-in_default g c = promised _ _ _ _ _ _ (c.in_default.ensures.says.1, tells_none _)
 
 pub returns-then-cells-cache : goal.returns-then-cells-cache
 returns-then-cells-cache g c = promised _ _ _ _ _ _ (cache c.in-Ok.cache, c.in-Ok.ensures.says.0, c.in-Ok.ensures.says.1, c.if-cells-cache.true, tells_none _)
@@ -17,10 +17,10 @@ go-requires g c =
     let s = c.in-Ok.ensures.says in
     record { ready = subst (λ l. Ready c.args.words.now l (record { at = 6; time = 0; used = 0 })) (sym c.none.ensures.1) (record { p = s.0; rest = []; fit = start_fit _ _ _ s.1 }); used = omega arith; cells = omega arith }
 
-pub returns-in-default-go : goal.returns-in-default-go
-returns-in-default-go g c =
+pub returns-in_default-go : goal.returns-in_default-go
+returns-in_default-go g c =
     let s = c.in-Ok.ensures.says in
-    told_ran_out c.args.words.now (cache c.in-Ok.cache) s.0 c.args.choices.now _ _ c.go.new.cells _ _ s.1 (c.clear.ensures.empty (cache c.in-Ok.cache) c.if-cells-cache.false) (goes_in (cache c.in-Ok.cache) _ [] _ 0 c.args.choices.now c.args.words.now _ _ _ c.go.new.cells _ _ None c.none.ensures.0 c.none.ensures.1 refl c.in-default-go.ensures s.0 [] (start_fit _ _ _ s.1))
+    told_ran_out c.args.words.now (cache c.in-Ok.cache) s.0 c.args.choices.now _ _ c.go.new.cells _ _ s.1 (c.clear.ensures.empty (cache c.in-Ok.cache) c.if-cells-cache.false) (goes_in (cache c.in-Ok.cache) _ [] _ 0 c.args.choices.now c.args.words.now _ _ _ c.go.new.cells _ _ None c.none.ensures.0 c.none.ensures.1 refl c.in_default-go.ensures s.0 [] (start_fit _ _ _ s.1))
 
 pub returns-then-end-choices : goal.returns-then-end-choices
 returns-then-end-choices g c =

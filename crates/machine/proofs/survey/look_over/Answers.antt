@@ -20,29 +20,29 @@ loop-pending-init c = (c.requires.within, λ p rest e. begun c.args.words.now c.
 
 pub loop-pending-preserved : goal.loop-pending-preserved
 loop-pending-preserved c =
-    let b = c.node-at-node.ensures in
-    let f = fits (drop c.loop-pending.at c.args.words.now) c.node-at-node.result b in
-    (omega (arith, f.0, c.size-at.ensures, c.loop-pending.invariant.0, length-drop c.loop-pending.at c.args.words.now), λ p rest e. pending_as c.args.words.now c.args.start p rest _ _ _ _ _ _ (omega (arith, c.size-at.ensures)) (cc) (omega (arith, c.parts.ensures)) (gone_on c.args.words.now c.args.start c.loop-pending.at c.loop-pending.quiet c.loop-pending.pending p rest c.node-at-node.result b (omega arith) (c.loop-pending.invariant.1 p rest e)))
+    let b = c.node_at-node.ensures in
+    let f = fits (drop c.loop-pending.at c.args.words.now) c.node_at-node.result b in
+    (omega (arith, f.0, c.size-at.ensures, c.loop-pending.invariant.0, length-drop c.loop-pending.at c.args.words.now), λ p rest e. pending_as c.args.words.now c.args.start p rest _ _ _ _ _ _ (omega (arith, c.size-at.ensures)) (cc) (omega (arith, c.parts.ensures)) (gone_on c.args.words.now c.args.start c.loop-pending.at c.loop-pending.quiet c.loop-pending.pending p rest c.node_at-node.result b (omega arith) (c.loop-pending.invariant.1 p rest e)))
 
 pub loop-pending-smaller : goal.loop-pending-smaller
 loop-pending-smaller c =
-    let b = c.node-at-node.ensures in
-    let f = fits (drop c.loop-pending.at c.args.words.now) c.node-at-node.result b in
+    let b = c.node_at-node.ensures in
+    let f = fits (drop c.loop-pending.at c.args.words.now) c.node_at-node.result b in
     omega (arith, f.0, f.1, c.size-at.ensures, c.loop-pending.invariant.0, length-drop c.loop-pending.at c.args.words.now)
 
-pub overflow-add-pending : goal.overflow-add-pending
-overflow-add-pending c =
+pub overflow_add-pending : goal.overflow_add-pending
+overflow_add-pending c =
     let f = few_pending _ _ _ _ _ _ _ (c.loop-pending.invariant.1 c.requires.p c.requires.rest c.requires.is) in
-    omega (arith, f, parts_few c.node-at-node.result, c.parts.ensures)
+    omega (arith, f, parts_few c.node_at-node.result, c.parts.ensures)
 
-pub overflow-add-at : goal.overflow-add-at
-overflow-add-at c =
-    let b = c.node-at-node.ensures in
-    let f = fits (drop c.loop-pending.at c.args.words.now) c.node-at-node.result b in
+pub overflow_add-at : goal.overflow_add-at
+overflow_add-at c =
+    let b = c.node_at-node.ensures in
+    let f = fits (drop c.loop-pending.at c.args.words.now) c.node_at-node.result b in
     omega (arith, f.0, c.size-at.ensures, c.loop-pending.invariant.0, length-drop c.loop-pending.at c.args.words.now)
 
-pub node-at-node-requires : goal.node-at-node-requires
-node-at-node-requires c =
+pub node_at-node-requires : goal.node_at-node-requires
+node_at-node-requires c =
     let x = some_node _ _ _ _ _ _ _ c.loop-pending-test.true (c.loop-pending.invariant.1 c.requires.p c.requires.rest c.requires.is) in
     record { p = x.0; rest = x.1; is = x.2; within = c.loop-pending.invariant.0 }
 

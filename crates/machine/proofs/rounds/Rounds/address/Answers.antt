@@ -2,13 +2,13 @@ use Rattle.std.proofs.Common.{◌-◌, get_or, sym, ◌∙◌, arith}
 use Rattle.machine.proofs.Addresses.{below_at, small_at, place_more, place_all, step_bound}
 use Rattle.machine.proofs.rounds.Rounds.address.Goals as goal
 
-pub overflow-mul-address : goal.overflow-mul-address
-overflow-mul-address c =
+pub overflow_mul-address : goal.overflow_mul-address
+overflow_mul-address c =
     let f = step_bound _ _ (small_at c.args.steps.now c.loop-i.i c.requires.stepped) (below_at 4096 c.args.self.at (c.args.self.depth - 1 - c.loop-i.i) (omega arith) c.args.self.low) in
     omega arith
 
-pub overflow-add-address : goal.overflow-add-address
-overflow-add-address c =
+pub overflow_add-address : goal.overflow_add-address
+overflow_add-address c =
     let f = step_bound _ _ (small_at c.args.steps.now c.loop-i.i c.requires.stepped) (below_at 4096 c.args.self.at (c.args.self.depth - 1 - c.loop-i.i) (omega arith) c.args.self.low) in
     omega arith
 

@@ -8,5 +8,5 @@ pub returns : goal.returns
 returns c =
     record {
       now_told = λ es k.
-          (omega (arith, k.0, total_push hits_of es (Work c.args.-start c.args.cycles)), omega (arith, k.1, total_push misses_of es (Work c.args.-start c.args.cycles)), omega (arith, k.2, c.saturating-add-self.ensures, total_push work_of es (Work c.args.-start c.args.cycles)));
+          (omega (arith, k.0, total_push hits_of es (Work c.args._start c.args.cycles)), omega (arith, k.1, total_push misses_of es (Work c.args._start c.args.cycles)), omega (arith, k.2, c.saturating_add-self.ensures, total_push work_of es (Work c.args._start c.args.cycles)));
     }
