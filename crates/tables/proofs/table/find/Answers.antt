@@ -3,8 +3,8 @@ use Rattle.tables.specs.Slots.{Absent, Found}
 use Rattle.tables.proofs.Chunks.{up_to, begins, begins_not, begins_more}
 use Rattle.tables.proofs.table.find.Goals as goal
 
-pub overflow-mul-here : goal.overflow-mul-here
-overflow-mul-here c = omega (arith, up_to c.width-width.result c.states.k c.args.i (omega arith))
+pub overflow_mul-here : goal.overflow_mul-here
+overflow_mul-here c = omega (arith, up_to c.width-width.result c.states.k c.args.i (omega arith))
 
 pub words-init : goal.words-init
 words-init c = (omega arith, up_to c.width-width.result c.states.k c.args.i (omega arith), refl)

@@ -3,14 +3,14 @@ use Rattle.tables.specs.Slots.{over, chunk}
 use Rattle.tables.proofs.Chunks.{fits_to, up_to, read_behind, copied_more, copied_all}
 use Rattle.tables.proofs.table.move_slot.Goals as goal
 
-pub overflow-mul-to : goal.overflow-mul-to
-overflow-mul-to c = omega (arith, fits_to c.width-width.ensures c.requires.order c.requires.fits)
+pub overflow_mul-to : goal.overflow_mul-to
+overflow_mul-to c = omega (arith, fits_to c.width-width.ensures c.requires.order c.requires.fits)
 
-pub overflow-add-slots-in-loop-j : goal.overflow-add-slots-in-loop-j
-overflow-add-slots-in-loop-j c = omega (arith, fits_to c.width-width.ensures c.requires.order c.requires.fits)
+pub overflow_add-slots-in-loop-j : goal.overflow_add-slots-in-loop-j
+overflow_add-slots-in-loop-j c = omega (arith, fits_to c.width-width.ensures c.requires.order c.requires.fits)
 
-pub offset-bounds-slots-to : goal.offset-bounds-slots-to
-offset-bounds-slots-to c = omega (arith, fits_to c.width-width.ensures c.requires.order c.requires.fits)
+pub offset_bounds-slots-to : goal.offset_bounds-slots-to
+offset_bounds-slots-to c = omega (arith, fits_to c.width-width.ensures c.requires.order c.requires.fits)
 
 pub bounds-slots-to : goal.bounds-slots-to
 bounds-slots-to c = omega (arith, fits_to c.width-width.ensures c.requires.order c.requires.fits)

@@ -6,20 +6,20 @@ use Rattle.tables.proofs.Applying.{noted_more, noted_all, notable, part, part_is
 use Rattle.tables.proofs.Chunks.{fits_at}
 use Rattle.tables.proofs.table.note_all.Goals as goal
 
-pub overflow-mul-at : goal.overflow-mul-at
-overflow-mul-at c = omega (arith, fits_at c.width-width.ensures c.loop-j-test.true c.requires.fits)
+pub overflow_mul-at : goal.overflow_mul-at
+overflow_mul-at c = omega (arith, fits_at c.width-width.ensures c.loop-j-test.true c.requires.fits)
 
-pub overflow-add-at : goal.overflow-add-at
-overflow-add-at c = omega (arith, fits_at c.width-width.ensures c.loop-j-test.true c.requires.fits)
+pub overflow_add-at : goal.overflow_add-at
+overflow_add-at c = omega (arith, fits_at c.width-width.ensures c.loop-j-test.true c.requires.fits)
 
-pub offset-bounds-slots-at : goal.offset-bounds-slots-at
-offset-bounds-slots-at c = omega (arith, fits_at c.width-width.ensures c.loop-j-test.true c.requires.fits)
+pub offset_bounds-slots-at : goal.offset_bounds-slots-at
+offset_bounds-slots-at c = omega (arith, fits_at c.width-width.ensures c.loop-j-test.true c.requires.fits)
 
-pub slice-bounds-note-slot-end : goal.slice-bounds-note-slot-end
-slice-bounds-note-slot-end c = omega (arith, fits_at c.width-width.ensures c.loop-j-test.true c.requires.fits)
+pub slice_bounds-note_slot-end : goal.slice_bounds-note_slot-end
+slice_bounds-note_slot-end c = omega (arith, fits_at c.width-width.ensures c.loop-j-test.true c.requires.fits)
 
-pub note-slot-end-requires : goal.note-slot-end-requires
-note-slot-end-requires c =
+pub note_slot-end-requires : goal.note_slot-end-requires
+note_slot-end-requires c =
     let g : Cache = cache c.args.cache in
     let h : width g * c.args.n ≤ length c.loop-j.slots = omega (arith, c.requires.fits) in
     let l = part_long g c.args.n c.loop-j.j c.width-width.result c.loop-j.slots c.width-width.ensures c.loop-j-test.true h in
@@ -31,8 +31,8 @@ pub loop-j-preserved : goal.loop-j-preserved
 loop-j-preserved c =
     let g : Cache = cache c.args.cache in
     let h : width g * c.args.n ≤ length c.loop-j.slots = omega (arith, c.requires.fits) in
-    let o = c.note-slot-end.ensures in
-    noted_more c.width-width.ensures c.loop-j-test.true h c.note-slot-end.auto.slot o.grown o.keeps o.shows c.loop-j.invariant
+    let o = c.note_slot-end.ensures in
+    noted_more c.width-width.ensures c.loop-j-test.true h c.note_slot-end.auto.slot o.grown o.keeps o.shows c.loop-j.invariant
 
 pub returns : goal.returns
 returns c =

@@ -8,17 +8,17 @@ use Rattle.tables.proofs.Chunks.{fits_at}
 use Rattle.tables.proofs.Matching.{shown_spent}
 use Rattle.tables.proofs.table.spend_all.Goals as goal
 
-pub overflow-mul-at : goal.overflow-mul-at
-overflow-mul-at c = omega (arith, fits_at c.width-width.ensures c.loop-k-test.true c.requires.fits)
+pub overflow_mul-at : goal.overflow_mul-at
+overflow_mul-at c = omega (arith, fits_at c.width-width.ensures c.loop-k-test.true c.requires.fits)
 
-pub overflow-add-at : goal.overflow-add-at
-overflow-add-at c = omega (arith, fits_at c.width-width.ensures c.loop-k-test.true c.requires.fits)
+pub overflow_add-at : goal.overflow_add-at
+overflow_add-at c = omega (arith, fits_at c.width-width.ensures c.loop-k-test.true c.requires.fits)
 
-pub offset-bounds-slots-at : goal.offset-bounds-slots-at
-offset-bounds-slots-at c = omega (arith, fits_at c.width-width.ensures c.loop-k-test.true c.requires.fits)
+pub offset_bounds-slots-at : goal.offset_bounds-slots-at
+offset_bounds-slots-at c = omega (arith, fits_at c.width-width.ensures c.loop-k-test.true c.requires.fits)
 
-pub slice-bounds-spend-end : goal.slice-bounds-spend-end
-slice-bounds-spend-end c = omega (arith, fits_at c.width-width.ensures c.loop-k-test.true c.requires.fits)
+pub slice_bounds-spend-end : goal.slice_bounds-spend-end
+slice_bounds-spend-end c = omega (arith, fits_at c.width-width.ensures c.loop-k-test.true c.requires.fits)
 
 pub spend-requires : goal.spend-requires
 spend-requires c =

@@ -6,7 +6,7 @@ use Rattle.console.proofs.choices.ChoiceText.feed.Goals as goal
 pub loop-byte-preserved : goal.loop-byte-preserved
 loop-byte-preserved c =
     let d = ap choices_in (drop_more c.args.bytes.now c.loop-byte.byte-index 0 c.loop-byte-test.true) in
-    ap (λ xs. xs ++ choices_in (drop (c.loop-byte.byte-index + 1) c.args.bytes.now)) c.in-ok-read.ensures ∙ append_assoc (vec_items c.loop-byte.self.choices) (picked (get_or c.args.bytes.now c.loop-byte.byte-index 0)) (choices_in (drop (c.loop-byte.byte-index + 1) c.args.bytes.now)) ∙ ap (λ xs. vec_items c.loop-byte.self.choices ++ xs) (sym d) ∙ c.loop-byte.invariant
+    ap (λ xs. xs ++ choices_in (drop (c.loop-byte.byte-index + 1) c.args.bytes.now)) c.in_ok-read.ensures ∙ append_assoc (vec_items c.loop-byte.self.choices) (picked (get_or c.args.bytes.now c.loop-byte.byte-index 0)) (choices_in (drop (c.loop-byte.byte-index + 1) c.args.bytes.now)) ∙ ap (λ xs. vec_items c.loop-byte.self.choices ++ xs) (sym d) ∙ c.loop-byte.invariant
 
 pub returns : goal.returns
 returns c =
