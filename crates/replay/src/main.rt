@@ -8,6 +8,7 @@ use machine::player::{Played, play};
 use machine::tally::Tally;
 use std::env;
 use std::io::{BufWriter, Write};
+use std::process::ExitCode;
 
 // With the choices, a byte each, the cells and the buffers, less than 4 MiB.
 const ROOM: Room = Room {
@@ -73,7 +74,7 @@ fn show(
     choices: &ChoiceText,
     cells: &mut [u32],
 ) -> Result<(), Failure> {
-    let mut out = BufWriter::new(rt.stdout());
+    let mut out = BufWriter::new(rt.alloc(), rt.stdout())?;
     write_header(&mut out)?;
     let mut printer = Printer::new(out);
     let _ = play(program.words(), choices.choices(), cells, &mut printer);
@@ -111,17 +112,20 @@ fn replay(rt: &HostRuntime, file: String, total: bool) -> Result<(), Failure> {
     }
 }
 
-fn main(rt: HostRuntime) -> Result<(), Failure> {
-    let end = match asked(&rt) {
-        Ok(Task::Help) => match print!(rt; "{HELP}") {
-            Ok(()) => Ok(()),
-            Err(error) => Err(Failure::Output(error)),
-        },
-        Ok(Task::Play { file, total }) => replay(&rt, file, total),
-        Err(failure) => Err(failure),
-    };
-    if let Err(failure) = &end {
-        let _ = eprintln!(rt; "replay: {failure}");
+fn run(rt: &HostRuntime) -> Result<(), Failure> {
+    match asked(rt)? {
+        Task::Help => print!(rt; "{HELP}")?,
+        Task::Play { file, total } => replay(rt, file, total)?,
     }
-    end
+    Ok(())
+}
+
+fn main(rt: HostRuntime) -> ExitCode {
+    match run(&rt) {
+        Ok(()) => ExitCode::SUCCESS,
+        Err(failure) => {
+            let _ = eprintln!(rt; "replay: {failure}");
+            ExitCode::FAILURE
+        }
+    }
 }

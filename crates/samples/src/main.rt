@@ -10,6 +10,7 @@ use machine::tally::Tally;
 use std::alloc::{AllocError, Global};
 use std::env;
 use std::io::{BufWriter, Write};
+use std::process::ExitCode;
 
 const ROOM: Room = Room {
     words: 1000448,
@@ -23,7 +24,7 @@ const MOST_CELLS: usize = 512;
 fn show_file(rt: &HostRuntime, path: String) -> Result<(), Failure> {
     println!(rt; "== {path}")?;
     let program = Source::from_file(rt, ROOM, path)?.read()?;
-    let mut out = BufWriter::new(rt.stdout());
+    let mut out = BufWriter::new(rt.alloc(), rt.stdout())?;
     write_cache(&mut out, program.cache)?;
     write_program(&mut out, rt.alloc(), program.code())?;
     out.flush()?;
@@ -112,10 +113,12 @@ fn run(rt: &HostRuntime) -> Result<(), Failure> {
     Ok(())
 }
 
-fn main(rt: HostRuntime) -> Result<(), Failure> {
-    let end = run(&rt);
-    if let Err(failure) = &end {
-        let _ = eprintln!(rt; "samples: {failure}");
+fn main(rt: HostRuntime) -> ExitCode {
+    match run(&rt) {
+        Ok(()) => ExitCode::SUCCESS,
+        Err(failure) => {
+            let _ = eprintln!(rt; "samples: {failure}");
+            ExitCode::FAILURE
+        }
     }
-    end
 }

@@ -5,6 +5,7 @@ use console::outline::{write_cache, write_program};
 use console::{Failure, Room, Source};
 use std::env;
 use std::io::{BufWriter, Write};
+use std::process::ExitCode;
 
 // With a piece of the text of 4096 bytes, 4 MiB; what the marks take is given back before anything is written.
 const ROOM: Room = Room {
@@ -71,7 +72,7 @@ fn show(rt: &HostRuntime, file: Option<String>) -> Result<(), Failure> {
         Some(path) => Source::from_file(rt, ROOM, path)?,
     };
     let program = source.read()?;
-    let mut out = BufWriter::new(rt.stdout());
+    let mut out = BufWriter::new(rt.alloc(), rt.stdout())?;
     write_cache(&mut out, program.cache)?;
     write_program(&mut out, rt.alloc(), program.code())?;
     out.flush()?;
@@ -86,10 +87,12 @@ fn run(rt: &HostRuntime) -> Result<(), Failure> {
     Ok(())
 }
 
-fn main(rt: HostRuntime) -> Result<(), Failure> {
-    let end = run(&rt);
-    if let Err(failure) = &end {
-        let _ = eprintln!(rt; "wcet: {failure}");
+fn main(rt: HostRuntime) -> ExitCode {
+    match run(&rt) {
+        Ok(()) => ExitCode::SUCCESS,
+        Err(failure) => {
+            let _ = eprintln!(rt; "wcet: {failure}");
+            ExitCode::FAILURE
+        }
     }
-    end
 }

@@ -11,17 +11,17 @@ use Rattle.engine.proofs.pass.+run_run_branch_run_either_run_first_run_rounds.Gi
 abbrev pub decreases-run : goal.decreases-run
 decreases-run l = 4 * (length l.pass.words.now - l.from.at) + 3
 
-abbrev pub decreases-run-rounds : goal.decreases-run-rounds
-decreases-run-rounds l = 4 * (length l.pass.words.now - l.from.at) + 2
+abbrev pub decreases-run_rounds : goal.decreases-run_rounds
+decreases-run_rounds l = 4 * (length l.pass.words.now - l.from.at) + 2
 
-abbrev pub decreases-run-branch : goal.decreases-run-branch
-decreases-run-branch l = 4 * (length l.pass.words.now - l.from.at) + 4
+abbrev pub decreases-run_branch : goal.decreases-run_branch
+decreases-run_branch l = 4 * (length l.pass.words.now - l.from.at) + 4
 
-abbrev pub decreases-run-either : goal.decreases-run-either
-decreases-run-either l = 4 * (length l.pass.words.now - l.from.at) + 2
+abbrev pub decreases-run_either : goal.decreases-run_either
+decreases-run_either l = 4 * (length l.pass.words.now - l.from.at) + 2
 
-abbrev pub decreases-run-first : goal.decreases-run-first
-decreases-run-first l = 4 * (length l.pass.words.now - l.from.at) + 1
+abbrev pub decreases-run_first : goal.decreases-run_first
+decreases-run_first l = 4 * (length l.pass.words.now - l.from.at) + 1
 
 abbrev pub invariant-run-loop-cycles : goal.invariant-run-loop-cycles
 invariant-run-loop-cycles l =
@@ -33,8 +33,8 @@ invariant-run-loop-cycles l =
 abbrev pub decreases-run-loop-cycles : goal.decreases-run-loop-cycles
 decreases-run-loop-cycles l = length l.pass.words.now - l.here.at
 
-abbrev pub invariant-run-rounds-loop-round : goal.invariant-run-rounds-loop-round
-invariant-run-rounds-loop-round l =
+abbrev pub invariant-run_rounds-loop-round : goal.invariant-run_rounds-loop-round
+invariant-run_rounds-loop-round l =
     (l.here.count ≤ l.room)
     × (l.here.top ≤ length l.store)
     × ((k : Task (cache l.pass.cache) (firsts_of l.pass.firsts) l.pass.words.now l.rounds.depth l.initial.here l.initial.slots l.initial.store) (b : P) → k.p ≡ times l.count b → Turned (cache l.pass.cache) (firsts_of l.pass.firsts) (around l.rounds.at l.rounds.depth) l.room b l.count l.round k.p k.T l.initial.here l.here l.initial.store l.slots l.store)

@@ -11,17 +11,17 @@ use Rattle.engine.proofs.pass.settle.Goals as goal
 kept : (c : goal.After-width) → c.width.result * c.args.keep ≤ length c.args.slots.now
 kept c = behind_fits c.width.result (width (cache c.args.cache)) c.args.keep (c.args.keep + c.args.count) c.args.slots.now c.width.ensures (omega arith) c.requires
 
-pub overflow-mul-width : goal.overflow-mul-width
-overflow-mul-width c = omega (arith, kept c)
+pub overflow_mul-width : goal.overflow_mul-width
+overflow_mul-width c = omega (arith, kept c)
 
-pub offset-bounds-slots-width : goal.offset-bounds-slots-width
-offset-bounds-slots-width c = omega (arith, kept c)
+pub offset_bounds-slots-width : goal.offset_bounds-slots-width
+offset_bounds-slots-width c = omega (arith, kept c)
 
-pub slice-bounds-gather-count : goal.slice-bounds-gather-count
-slice-bounds-gather-count c = kept c
+pub slice_bounds-gather-count : goal.slice_bounds-gather-count
+slice_bounds-gather-count c = kept c
 
-pub slice-bounds-gather-start : goal.slice-bounds-gather-start
-slice-bounds-gather-start c = omega (arith, kept c)
+pub slice_bounds-gather-start : goal.slice_bounds-gather-start
+slice_bounds-gather-start c = omega (arith, kept c)
 
 pub gather-requires : goal.gather-requires
 gather-requires c =

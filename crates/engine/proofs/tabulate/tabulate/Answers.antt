@@ -11,8 +11,8 @@ use Rattle.engine.proofs.Chains.{goes_as, point}
 use Rattle.engine.proofs.Promised.{promised, front_long, shows_start, whole, ready, told_crowded, told_done}
 use Rattle.engine.proofs.tabulate.tabulate.Goals as goal
 
-pub returns-in-default : goal.returns-in-default
-returns-in-default c = promised _ _ _ _ _ _ _ c.in-default.ensures.says.1
+pub returns-in_default : goal.returns-in_default
+returns-in_default c = promised _ _ _ _ _ _ _ c.in_default.ensures.says.1
 
 pub returns-then-slots-width : goal.returns-then-slots-width
 returns-then-slots-width c = let s = c.in-Ok.ensures.says in promised _ _ _ _ _ _ _ (cache c.in-Ok.cache, s.0, s.1, subst (λ w. suc (length c.args.slots.now) ≤ w * c.args.most) c.width.ensures c.if-slots-width.true)
@@ -29,8 +29,8 @@ one_fits g (suc m) w len e h n = let q = mul-suc w m in omega arith
 pub returns-then-room-eq0 : goal.returns-then-room-eq0
 returns-then-room-eq0 c = let s = c.in-Ok.ensures.says in told_crowded c.args.words.now (cache c.in-Ok.cache) s.0 (firsts_of c.args.firsts) c.args.most _ _ _ s.1 (omega (arith, c.if-room-eq0.true))
 
-pub slice-bounds-begin-end : goal.slice-bounds-begin-end
-slice-bounds-begin-end c = omega (arith, one_fits (cache c.in-Ok.cache) c.args.most c.width.result (length c.args.slots.now) c.width.ensures c.if-slots-width.false c.if-room-eq0.false, c.width-2.ensures)
+pub slice_bounds-begin-end : goal.slice_bounds-begin-end
+slice_bounds-begin-end c = omega (arith, one_fits (cache c.in-Ok.cache) c.args.most c.width.result (length c.args.slots.now) c.width.ensures c.if-slots-width.false c.if-room-eq0.false, c.width-2.ensures)
 
 pub begin-requires : goal.begin-requires
 begin-requires c =
@@ -42,10 +42,10 @@ run-requires c =
     let s = c.in-Ok.ensures.says in
     record { ready = ready c.args.words.now (cache c.in-Ok.cache) s.0 s.1 (firsts_of c.args.firsts) c.none.result.depth c.none.ensures.1 (c.begin.new.slot ++ post_of 0 (c.width-2.result - 0) c.args.slots.now) c.args.store.now (shows_start (cache c.in-Ok.cache) (firsts_of c.args.firsts) (take 0 c.args.store.now) c.args.slots.now c.begin.new.slot (c.width-2.result - 0) (front_long (width (cache c.in-Ok.cache)) c.width-2.result c.args.slots.now c.begin.new.slot c.width-2.ensures (one_fits (cache c.in-Ok.cache) c.args.most c.width.result (length c.args.slots.now) c.width.ensures c.if-slots-width.false c.if-room-eq0.false) c.begin.auto.slot).0 (c.begin.ensures (firsts_of c.args.firsts) (take 0 c.args.store.now))) c.args.most (some c.args.most c.if-room-eq0.false); slots = subst (λ n. width (cache c.in-Ok.cache) * c.args.most ≤ n) (sym (front_long (width (cache c.in-Ok.cache)) c.width-2.result c.args.slots.now c.begin.new.slot c.width-2.ensures (one_fits (cache c.in-Ok.cache) c.args.most c.width.result (length c.args.slots.now) c.width.ensures c.if-slots-width.false c.if-room-eq0.false) c.begin.auto.slot).1) (subst (λ w. w * c.args.most ≤ length c.args.slots.now) c.width.ensures c.if-slots-width.false) }
 
-pub returns-in-default-run : goal.returns-in-default-run
-returns-in-default-run c =
+pub returns-in_default-run : goal.returns-in_default-run
+returns-in_default-run c =
     let s = c.in-Ok.ensures.says in
-    let m = goes_as (cache c.in-Ok.cache) (firsts_of c.args.firsts) (around c.none.result.at c.none.result.depth) [] c.args.words.now c.none.result.depth c.none.result.depth (point 6 1 0) (point 6 1 0) c.args.most (c.begin.new.slot ++ post_of 0 (c.width-2.result - 0) c.args.slots.now) c.run.new.slots c.args.store.now c.run.new.store None c.none.ensures.0 refl refl c.in-default-run.ensures (whole c.args.words.now (cache c.in-Ok.cache) s.0 s.1 (firsts_of c.args.firsts) c.none.result.depth c.none.ensures.1 (c.begin.new.slot ++ post_of 0 (c.width-2.result - 0) c.args.slots.now) c.args.store.now (shows_start (cache c.in-Ok.cache) (firsts_of c.args.firsts) (take 0 c.args.store.now) c.args.slots.now c.begin.new.slot (c.width-2.result - 0) (front_long (width (cache c.in-Ok.cache)) c.width-2.result c.args.slots.now c.begin.new.slot c.width-2.ensures (one_fits (cache c.in-Ok.cache) c.args.most c.width.result (length c.args.slots.now) c.width.ensures c.if-slots-width.false c.if-room-eq0.false) c.begin.auto.slot).0 (c.begin.ensures (firsts_of c.args.firsts) (take 0 c.args.store.now)))) in
+    let m = goes_as (cache c.in-Ok.cache) (firsts_of c.args.firsts) (around c.none.result.at c.none.result.depth) [] c.args.words.now c.none.result.depth c.none.result.depth (point 6 1 0) (point 6 1 0) c.args.most (c.begin.new.slot ++ post_of 0 (c.width-2.result - 0) c.args.slots.now) c.run.new.slots c.args.store.now c.run.new.store None c.none.ensures.0 refl refl c.in_default-run.ensures (whole c.args.words.now (cache c.in-Ok.cache) s.0 s.1 (firsts_of c.args.firsts) c.none.result.depth c.none.ensures.1 (c.begin.new.slot ++ post_of 0 (c.width-2.result - 0) c.args.slots.now) c.args.store.now (shows_start (cache c.in-Ok.cache) (firsts_of c.args.firsts) (take 0 c.args.store.now) c.args.slots.now c.begin.new.slot (c.width-2.result - 0) (front_long (width (cache c.in-Ok.cache)) c.width-2.result c.args.slots.now c.begin.new.slot c.width-2.ensures (one_fits (cache c.in-Ok.cache) c.args.most c.width.result (length c.args.slots.now) c.width.ensures c.if-slots-width.false c.if-room-eq0.false) c.begin.auto.slot).0 (c.begin.ensures (firsts_of c.args.firsts) (take 0 c.args.store.now)))) in
     told_crowded c.args.words.now (cache c.in-Ok.cache) s.0 (firsts_of c.args.firsts) c.args.most _ c.run.new.slots c.run.new.store s.1 (omega (arith, m))
 
 pub returns : goal.returns
