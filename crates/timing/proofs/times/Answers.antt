@@ -7,17 +7,17 @@ use Rattle.timing.proofs.times.Goals as goal
 no_program : NoProgram ≡ Few → ⊥
 no_program e = let z : ◌≡◌ {A = ℕ} 0 1 = cc in omega arith
 
-pub returns-then-is-few : goal.returns-then-is-few
-returns-then-is-few c = promised_few c.args.words.now c.args.most (length c.args.work.now) c.args.choices.now c.is-few.result c.is-few.ensures c.if-is-few.true
+pub returns-then-is_few : goal.returns-then-is_few
+returns-then-is_few c = promised_few c.args.words.now c.args.most (length c.args.work.now) c.args.choices.now c.is_few.result c.is_few.ensures c.if-is_few.true
 
-pub returns-in-default : goal.returns-in-default
-returns-in-default c = promised c.args.words.now c.args.most (length c.args.work.now) c.args.choices.now c.args.choices.now NoProgram (enough c.is-few.result (length c.args.work.now) (length c.args.words.now) c.args.most c.is-few.ensures c.if-is-few.false) no_program (c.in-default.ensures.says.1, refl)
+pub returns-in_default : goal.returns-in_default
+returns-in_default c = promised c.args.words.now c.args.most (length c.args.work.now) c.args.choices.now c.args.choices.now NoProgram (enough c.is_few.result (length c.args.work.now) (length c.args.words.now) c.args.most c.is_few.ensures c.if-is_few.false) no_program (c.in_default.ensures.says.1, refl)
 
-pub split-at-mut-slots-requires : goal.split-at-mut-slots-requires
-split-at-mut-slots-requires c = subst (λ w. w * c.args.most ≤ length c.args.work.now) (sym c.width.ensures) (slots_fit c.in-Ok.cache (length c.args.words.now) c.args.most (length c.args.work.now) (enough c.is-few.result (length c.args.work.now) (length c.args.words.now) c.args.most c.is-few.ensures c.if-is-few.false))
+pub split_at_mut-slots-requires : goal.split_at_mut-slots-requires
+split_at_mut-slots-requires c = subst (λ w. w * c.args.most ≤ length c.args.work.now) (sym c.width.ensures) (slots_fit c.in-Ok.cache (length c.args.words.now) c.args.most (length c.args.work.now) (enough c.is_few.result (length c.args.work.now) (length c.args.words.now) c.args.most c.is_few.ensures c.if-is_few.false))
 
-pub time-within-requires : goal.time-within-requires
-time-within-requires c = record { reads = c.in-Ok.ensures.says; fits = subst (λ w. w * c.args.most ≤ length c.split-at-mut-slots.result.0.now) c.width.ensures (omega (arith, c.split-at-mut-slots.ensures.front-len)) }
+pub time_within-requires : goal.time_within-requires
+time_within-requires c = record { reads = c.in-Ok.ensures.says; fits = subst (λ w. w * c.args.most ≤ length c.split_at_mut-slots.result.0.now) c.width.ensures (omega (arith, c.split_at_mut-slots.ensures.front_len)) }
 
 pub returns : goal.returns
-returns c = promised c.args.words.now c.args.most (length c.args.work.now) c.args.choices.now c.time-within.new.choices c.time-within.result (enough c.is-few.result (length c.args.work.now) (length c.args.words.now) c.args.most c.is-few.ensures c.if-is-few.false) c.time-within.ensures.enough c.time-within.ensures.says
+returns c = promised c.args.words.now c.args.most (length c.args.work.now) c.args.choices.now c.time_within.new.choices c.time_within.result (enough c.is_few.result (length c.args.work.now) (length c.args.words.now) c.args.most c.is_few.ensures c.if-is_few.false) c.time_within.ensures.enough c.time_within.ensures.says
