@@ -67,7 +67,7 @@ mod tests {
         listing.feed(b"1")?;
         listing.feed(b"2")?;
         listing.finish();
-        assert_eq!(rt; listing.words(), &[1, 7, 4294967295, 12]);
+        assert_eq!(rt; listing.words(), [1, 7, 4294967295, 12].as_slice());
         assert_eq!(rt; listing.line_of(0), Some(2));
         assert_eq!(rt; listing.line_of(1), Some(2));
         assert_eq!(rt; listing.line_of(2), Some(4));
@@ -86,7 +86,7 @@ mod tests {
         assert_eq!(rt; listing.feed(b" 7"), Err(Flaw::TooManyWords(2)));
         assert_eq!(rt; listing.feed(b"\n"), Err(Flaw::TooManyLines(4)));
         listing.finish();
-        assert_eq!(rt; listing.words(), &[1, 429496729]);
+        assert_eq!(rt; listing.words(), [1, 429496729].as_slice());
         Ok(())
     }
 

@@ -108,7 +108,7 @@ mod tests {
             recorded: 7,
         };
         write(&mut words, telling);
-        assert_eq!(rt; &words[..], &[2, 1, 4, 3, 5, 6, 7]);
+        assert_eq!(rt; &words[..], [2, 1, 4, 3, 5, 6, 7].as_slice());
         assert_eq!(rt; read(&words).time, 4294967298);
         assert_eq!(rt; read(&words).count, 12884901892);
         assert_eq!(rt; read(&words).recorded, 7);

@@ -168,9 +168,9 @@ mod tests {
         let mut out = [9; 72];
         let telling = played(&mut store, ChoiceNumber(0), 70);
         assert_eq!(rt; tell(telling, &store, &mut out), 70);
-        assert_eq!(rt; &out[..4], &[1, 0, 0, 1]);
-        assert_eq!(rt; &out[30..36], &[1, 0, 0, 1, 0, 0]);
-        assert_eq!(rt; &out[66..], &[1, 0, 0, 1, 9, 9]);
+        assert_eq!(rt; &out[..4], [1, 0, 0, 1].as_slice());
+        assert_eq!(rt; &out[30..36], [1, 0, 0, 1, 0, 0].as_slice());
+        assert_eq!(rt; &out[66..], [1, 0, 0, 1, 9, 9].as_slice());
         assert_eq!(rt; store[4], 0);
     }
 
@@ -181,7 +181,7 @@ mod tests {
         let telling = played(&mut store, ChoiceNumber(0), 100);
         assert_eq!(rt; telling.count, 100);
         assert_eq!(rt; tell(telling, &store, &mut out), 64);
-        assert_eq!(rt; &out[60..66], &[1, 0, 0, 1, 9, 9]);
+        assert_eq!(rt; &out[60..66], [1, 0, 0, 1, 9, 9].as_slice());
     }
 
     #[test]
@@ -190,6 +190,6 @@ mod tests {
         let mut out = [9; 12];
         let telling = played(&mut store, ChoiceNumber(5), 12);
         assert_eq!(rt; tell(telling, &store, &mut out), 7);
-        assert_eq!(rt; &out[..8], &[0, 1, 0, 0, 1, 0, 0, 9]);
+        assert_eq!(rt; &out[..8], [0, 1, 0, 0, 1, 0, 0, 9].as_slice());
     }
 }

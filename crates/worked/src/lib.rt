@@ -36,10 +36,10 @@ mod tests {
         let mut store = [7; 2];
         let table = tabulate(&EITHER, from_choice(0), 2, &mut slots, &mut store);
         assert_eq!(rt; entries(table)?, 2);
-        assert_eq!(rt; &slots[..9], &[1, 0, 11, 0, 1, 0, 0, 1, 1]);
-        assert_eq!(rt; &slots[9..16], &[11, 0, 1, 0, 0, 1, 1]);
-        assert_eq!(rt; &slots[16..25], &[1, 2, 20, 0, 1, 0, 0, 0, 1]);
-        assert_eq!(rt; &store[..], &[7, 7]);
+        assert_eq!(rt; &slots[..9], [1, 0, 11, 0, 1, 0, 0, 1, 1].as_slice());
+        assert_eq!(rt; &slots[9..16], [11, 0, 1, 0, 0, 1, 1].as_slice());
+        assert_eq!(rt; &slots[16..25], [1, 2, 20, 0, 1, 0, 0, 0, 1].as_slice());
+        assert_eq!(rt; &store[..], [7, 7].as_slice());
         Ok(())
     }
 
@@ -111,7 +111,7 @@ mod tests {
         assert_eq!(rt; shortest, 11);
         assert_eq!(rt; long, 1);
         assert_eq!(rt; short, 1);
-        assert_eq!(rt; &choices[..], &[0, 1, 9]);
+        assert_eq!(rt; &choices[..], [0, 1, 9].as_slice());
         Ok(())
     }
 
@@ -144,8 +144,8 @@ mod tests {
         assert_eq!(rt; choices[0], 9);
     }
 
-    // 4,096 rounds of 64 rounds of either 0 or 1 in one line: more choices than the store of one pass holds.
-    const LONG: [u32; 17] = [1, 1, 1, 1, 10, 1, 4, 4096, 4, 64, 3, 1, 0, 0, 1, 1, 0];
+    // 1,024 rounds of 64 rounds of either 0 or 1 in one line: more choices than the store of one pass holds.
+    const LONG: [u32; 17] = [1, 1, 1, 1, 10, 1, 4, 1024, 4, 64, 3, 1, 0, 0, 1, 1, 0];
 
     // How many runs of equal choices there are among so many from a place on.
     fn runs(choices: &[u8], from: usize, count: usize) -> usize {
@@ -162,19 +162,19 @@ mod tests {
 
     #[test]
     fn further_passes_tell_the_rest(rt: HostRuntime) -> Result<(), Fail> {
-        let mut work = [0; 4096 + 8 * 17 + 2048 * 5];
-        let mut choices = [7; 524289];
+        let mut work = vec![in rt.alloc(); 0u32; 4096 + 8 * 17 + 2048 * 5]?;
+        let mut choices = vec![in rt.alloc(); 7u8; 131073]?;
         let Timed::Times(longest, shortest, long, short) = times(&LONG, 4, &mut choices, &mut work)
         else {
             return Err(Fail::new("no times"));
         };
-        assert_eq!(rt; longest, 2621440);
-        assert_eq!(rt; shortest, 262153);
-        assert_eq!(rt; long, 262144);
-        assert_eq!(rt; short, 262144);
-        assert_eq!(rt; runs(&choices, 0, long), 262144);
+        assert_eq!(rt; longest, 655360);
+        assert_eq!(rt; shortest, 65545);
+        assert_eq!(rt; long, 65536);
+        assert_eq!(rt; short, 65536);
+        assert_eq!(rt; runs(&choices, 0, long), 65536);
         assert_eq!(rt; runs(&choices, long, short), 1);
-        assert_eq!(rt; choices[524288], 7);
+        assert_eq!(rt; choices.get(131072).copied(), Some(7));
         Ok(())
     }
 }
