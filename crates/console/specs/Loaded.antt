@@ -1,5 +1,5 @@
 -- What is told of the words that were loaded.
-use Rattle.std.specs.Prelude.{◌≡◌, ℕ, ◌+◌, min, List, Ok, Err, vec_items, Result}
+use Rattle.std.specs.Prelude.{◌≡◌, ℕ, ◌+◌, min, Ok, Err, vec_items, Result}
 use Rattle.std.specs.Option.{unwrap_or}
 use Rattle.cycles.specs.Code.{P, Cache}
 use Rattle.cycles.specs.Rows.{Reads}

@@ -1,8 +1,8 @@
 -- How the reading of a program goes on behind the first of two, and ends.
-use Rattle.std.proofs.Common.{◌≡◌, ℕ, zero, suc, ◌+◌, ◌*◌, ◌<◌, ◌≤◌, min, max, Bool, true, false, ◌&&◌, ltb, leb, List, [], ◌∷◌, ◌++◌, length, take, drop, Ok, sym, refl, ap, ◌∙◌, subst, inl, inr, append_assoc, add-zero, suc-mul, zero-mul, add-one, arith, length-append, length-drop}
-use Rattle.std.proofs.lemmas.List.{drop-drop, drop_at}
+use Rattle.std.proofs.Common.{◌≡◌, ℕ, zero, suc, ◌+◌, ◌*◌, ◌<◌, ◌≤◌, min, max, true, ◌&&◌, ltb, leb, List, ◌∷◌, ◌++◌, length, drop, Ok, sym, refl, ap, ◌∙◌, subst, inl, inr, append_assoc, suc-mul, zero-mul, add-one, arith, length-append, length-drop}
+use Rattle.std.proofs.lemmas.List.{drop-drop}
 use Rattle.std.proofs.lemmas.Bool.{and_parts, and_from, cases_lt, lt-ltb, le-leb}
-use Rattle.cycles.specs.declared.node.Node.TheVariants.{Work, Touch, Seq, Either, Loop, Skip}
+use Rattle.cycles.specs.declared.node.Node.TheVariants.{Work, Seq, Either, Loop, Skip}
 use Rattle.cycles.specs.Code.{P, work, touch, seq, either, times, skip}
 use Rattle.cycles.specs.Rows.{row, ok, deep, amount, small}
 use Rattle.cycles.specs.Reading.{Spans, NoneBegins, Begins}

@@ -1,8 +1,7 @@
 -- The definitions on small cases, computed: programs played; a FIFO cache that is slower with more ways; a program as words.
-use Rattle.std.proofs.Common.{◌≡◌, ℕ, Bool, true, false, List, [], ◌∷◌, ◌++◌, refl}
-use mathlib.Core.Option.{Option, some, none}
-use Rattle.cycles.specs.Code.{P, work, touch, seq, either, times, skip, Cache, St, empty}
-use Rattle.cycles.specs.Plays.{Play, play, At, through, widest}
+use Rattle.std.proofs.Common.{◌≡◌, true, false, [], ◌∷◌, refl}
+use Rattle.cycles.specs.Code.{P, touch, seq, either, times, Cache, empty}
+use Rattle.cycles.specs.Plays.{Play, widest}
 use Rattle.cycles.specs.Rows.{row, amount}
 
 one : Cache

@@ -1,5 +1,5 @@
 -- Nodes and the words that they stand in.
-use Rattle.std.proofs.Common.{◌≡◌, ℕ, ◌+◌, ◌-◌, ◌≤◌, List, [], ◌∷◌, ◌++◌, length, take, drop, Ok, Result, ap, ◌∙◌, subst, arith, length-append}
+use Rattle.std.proofs.Common.{ℕ, ◌+◌, ◌-◌, ◌≤◌, List, length, take, drop, Ok, Result, ap, subst, arith, length-append}
 use Rattle.std.proofs.lemmas.List.{take_rest}
 use Rattle.cycles.specs.declared.fault.Rule.{Rule}
 use Rattle.cycles.specs.declared.node.Node.{Node}

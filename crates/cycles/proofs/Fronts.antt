@@ -1,6 +1,6 @@
 -- What words begin with, by their places: enough words for a node, or a rule that is broken.
-use Rattle.std.proofs.Common.{◌≡◌, ℕ, zero, suc, ◌+◌, ◌-◌, ◌<◌, ◌≤◌, ◌⊎◌, List, [], ◌∷◌, ◌++◌, length, get_or, take, drop, Ok, Err, sym, refl, ap, ◌∙◌, subst, inl, inr, add-zero, arith, length-append, length-drop, length-take}
-use Rattle.std.proofs.lemmas.List.{drop-drop, take-append-drop, take_rest, get_or-append-add}
+use Rattle.std.proofs.Common.{◌≡◌, ℕ, ◌+◌, ◌<◌, ◌≤◌, ◌⊎◌, List, [], ◌∷◌, ◌++◌, length, get_or, take, drop, Err, sym, refl, ap, ◌∙◌, inl, inr, add-zero, arith, length-append, length-take}
+use Rattle.std.proofs.lemmas.List.{drop-drop, take-append-drop, get_or-append-add}
 use Rattle.cycles.specs.declared.fault.Rule.TheVariants.{NodeMissing, WorkCut, TouchCut, LoopCut, UnknownNode}
 use Rattle.cycles.specs.Code.{P, work, touch, seq, either, times, skip}
 use Rattle.cycles.specs.Rows.{row}

@@ -1,8 +1,8 @@
 -- Nodes that break a limit: where, and that no program begins so.
-use Rattle.std.proofs.Common.{◌≡◌, ℕ, zero, suc, ◌+◌, ◌<◌, ◌≤◌, Bool, true, false, ◌&&◌, ltb, leb, List, [], ◌∷◌, ◌++◌, length, get_or, drop, Some, None, Ok, Option, sym, refl, ap, ◌∙◌, subst, add-zero, arith, MatchOption}
+use Rattle.std.proofs.Common.{◌≡◌, ℕ, ◌+◌, ◌<◌, ◌≤◌, true, List, [], ◌∷◌, ◌++◌, length, get_or, drop, Some, None, Ok, Option, sym, ap, ◌∙◌, subst, arith, MatchOption}
 use Rattle.std.proofs.lemmas.List.{get_or-append-add, get_or_append_left}
 use Rattle.std.proofs.lemmas.Bool.{and_parts, ltb-true, leb-true}
-use Rattle.cycles.specs.Code.{P, work, touch, seq, either, times, skip}
+use Rattle.cycles.specs.Code.{P, touch}
 use Rattle.cycles.specs.Rows.{row, ok, deep, small}
 use Rattle.cycles.specs.declared.node.Node.{Node}
 use Rattle.cycles.specs.declared.node.Node.TheVariants.{Seq, Either, Loop}

@@ -1,5 +1,5 @@
 -- Programs, and the cache that they run on.
-use Rattle.std.specs.Prelude.{ℕ, zero, suc, ◌+◌, ◌-◌, ◌*◌, ◌/◌, ◌%◌, max, Bool, true, false, not, ◌&&◌, ◌||◌, List, [], ◌∷◌, ◌++◌, length, take, replicate, ◌==◌}
+use Rattle.std.specs.Prelude.{ℕ, zero, suc, ◌+◌, ◌*◌, ◌/◌, ◌%◌, Bool, true, false, ◌||◌, List, [], ◌∷◌, take, replicate, ◌==◌}
 use Rattle.std.proofs.Math.Option.{Option, some, none}
 
 abbrev pub pick : {A : Type 0} → Bool → A → A → A

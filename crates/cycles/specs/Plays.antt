@@ -1,7 +1,7 @@
 -- What a program takes, by the choices that are made; and all states that plays can come to.
-use Rattle.std.specs.Prelude.{◌≡◌, ℕ, zero, suc, ◌+◌, ◌≤◌, max, Bool, true, false, not, ◌&&◌, ◌||◌, List, [], ◌∷◌, ◌++◌, length, ◌==◌}
+use Rattle.std.specs.Prelude.{◌≡◌, ℕ, zero, suc, ◌+◌, max, Bool, true, false, ◌&&◌, ◌||◌, List, [], ◌∷◌, length, ◌==◌}
 use Rattle.std.proofs.Math.Option.{Option, some, none}
-use Rattle.cycles.specs.Code.{pick, opt, P, work, touch, seq, either, times, skip, Cache, St, after, cost, place}
+use Rattle.cycles.specs.Code.{pick, P, work, touch, seq, either, times, skip, Cache, St, after, cost, place}
 
 -- where a play is: the cycles so far, the state of the cache, the choices not yet used
 pub record At : Type 0 where

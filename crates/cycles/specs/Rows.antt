@@ -1,5 +1,5 @@
 -- Programs and caches as words.
-use Rattle.std.specs.Prelude.{◌≡◌, ℕ, zero, suc, ◌+◌, ◌*◌, ◌≤◌, max, Bool, true, false, not, ◌&&◌, ◌||◌, T, List, [], ◌∷◌, ◌++◌, length, nat_le, nat_lt}
+use Rattle.std.specs.Prelude.{◌≡◌, ℕ, suc, ◌+◌, ◌*◌, max, Bool, true, ◌&&◌, T, List, [], ◌∷◌, ◌++◌, length, nat_le, nat_lt}
 use Rattle.cycles.specs.Code.{pick, P, work, touch, seq, either, times, skip, Cache}
 
 -- work: 0 cycles; touch: 1 base, how many steps, these; two: 2 first second; either: 3 first second; loop: 4 rounds body; nothing: 5

@@ -1,10 +1,10 @@
 -- The theorems about programs and caches, as types, and what the call that tells the times promises.
-use Rattle.std.specs.Prelude.{◌≡◌, ℕ, zero, suc, ◌+◌, ◌*◌, ◌<◌, ◌≤◌, Bool, true, false, ◌⊎◌, ◌↔◌, List, [], ◌∷◌, ◌++◌, length, take, drop}
-use Rattle.std.proofs.Math.Option.{Option, some, none}
+use Rattle.std.specs.Prelude.{◌≡◌, ℕ, suc, ◌+◌, ◌*◌, ◌<◌, ◌≤◌, Bool, true, ◌↔◌, List, [], ◌∷◌, ◌++◌, length, take, drop}
+use Rattle.std.proofs.Math.Option.{some}
 use Rattle.cycles.specs.declared.Timed.{Timed}
 use Rattle.cycles.specs.declared.Timed.TheVariants.{Times, Crowded, OutFull, NoProgram, Few}
 use Rattle.cycles.specs.Code.{pick, P, Cache, St, empty, after, there}
-use Rattle.cycles.specs.Plays.{Play, play, At, has, through, widest}
+use Rattle.cycles.specs.Plays.{Play, has, through, widest}
 use Rattle.cycles.specs.Rows.{Reads}
 
 -- words are at most one cache and program

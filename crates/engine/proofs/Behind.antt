@@ -1,17 +1,17 @@
 -- The slots behind some that are kept, as a part of the words that is lent on.
-use Rattle.std.proofs.Common.{◌≡◌, ℕ, ◌+◌, ◌-◌, ◌*◌, ◌<◌, ◌≤◌, Bool, List, ◌∷◌, ◌++◌, map, length, take, drop, Some, None, Option, sym, refl, ap, ◌∙◌, subst, append-nil, mul-add, arith, length-drop}
+use Rattle.std.proofs.Common.{◌≡◌, ℕ, ◌+◌, ◌-◌, ◌*◌, ◌≤◌, Bool, List, ◌++◌, map, length, take, drop, Some, None, Option, ap, ◌∙◌, append-nil, mul-add, arith, length-drop}
 use borrow.Rule.Slice.PartMut.{put_mid}
 use Rattle.std.proofs.lemmas.List.{take_rest, take_at, drop_at, drop_all, length-take-le}
-use Rattle.cycles.specs.Code.{P, Cache}
+use Rattle.cycles.specs.Code.{Cache}
 use Rattle.cycles.specs.Rows.{amount}
-use Rattle.tables.specs.Best.{Both, Table, Room, told}
+use Rattle.tables.specs.Best.{Both, Table, told}
 use Rattle.tables.specs.Showing.{Shows, Grown}
 use Rattle.tables.specs.Tables.{chose}
 use Rattle.tables.proofs.Chunks.{up_to}
 use Rattle.tables.proofs.Matching.{grown_on}
 use Rattle.tables.proofs.Rooms.{room_less, room_chose}
 use Rattle.engine.specs.declared.pass.Point.{Point}
-use Rattle.engine.specs.Passing.{Fit, Task, Ready, Ran, Came, Goes}
+use Rattle.engine.specs.Passing.{Task, Ready, Came, Goes}
 use Rattle.engine.proofs.Chains.{point}
 
 -- by a width w that the code computes, with k of n slots kept

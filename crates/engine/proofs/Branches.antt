@@ -1,23 +1,22 @@
 -- How a pass goes through an either: a copy of the table for the first branch, what that comes to before the original, the second branch, and both joined.
-use Rattle.std.proofs.Common.{◌≡◌, ℕ, suc, ◌+◌, ◌-◌, ◌*◌, ◌<◌, ◌≤◌, max, Bool, true, false, List, [], ◌∷◌, ◌++◌, map, length, take, drop, Some, None, Ok, sym, refl, ap, ◌∙◌, subst, mul-zero, mul-add, arith, length-append, length-drop, length-take}
-use Rattle.std.proofs.lemmas.List.{take_at, drop_at, length-take-le, take_all}
+use Rattle.std.proofs.Common.{◌≡◌, ℕ, ◌+◌, ◌-◌, ◌*◌, ◌<◌, ◌≤◌, max, true, false, List, [], ◌++◌, map, length, take, drop, Some, Ok, sym, ap, ◌∙◌, subst, mul-add, arith, length-append, length-drop}
+use Rattle.std.proofs.lemmas.List.{take_at, drop_at, length-take-le}
 use Rattle.cycles.specs.declared.node.Node.TheVariants.{Either}
 use Rattle.cycles.specs.Code.{P, either, Cache}
 use Rattle.cycles.specs.Reading.{Begins}
-use Rattle.cycles.specs.Rows.{row, ok, amount}
+use Rattle.cycles.specs.Rows.{row, amount}
 use Rattle.tables.specs.Best.{Both, Table, Room, told}
 use Rattle.tables.specs.Each.{no_more}
 use Rattle.tables.specs.Showing.{Shows, Showing, Grown, width}
-use Rattle.tables.specs.Slots.{chunks}
 use Rattle.tables.specs.Tables.{dedup, gather, chose, run, need}
 use Rattle.tables.proofs.Chunks.{chunks_same, up_to}
 use Rattle.tables.proofs.Matching.{grown_on}
-use Rattle.tables.proofs.Rooms.{room_less, room_dedup, room_chose}
+use Rattle.tables.proofs.Rooms.{room_less, room_dedup}
 use Rattle.engine.specs.declared.pass.Point.{Point}
 use Rattle.engine.specs.declared.pass.Fork.{Fork}
 use Rattle.engine.specs.Passing.{Fit, Task, Ready, Ran, Came, Forked}
 use Rattle.engine.proofs.Parts.{is_either}
-use Rattle.engine.proofs.Chains.{point, grown_none, shows_grown, shows_count}
+use Rattle.engine.proofs.Chains.{point, shows_grown, shows_count}
 
 -- slots with the same words show the same
 pub shows_same : (c : Cache) (a : Both ℕ) (s : List ℕ) (n : ℕ) (xs ys : List ℕ) (T : Table) → width c * n ≤ length xs → width c * n ≤ length ys → take (width c * n) ys ≡ take (width c * n) xs → Shows c a s n xs T → Shows c a s n ys T

@@ -1,9 +1,9 @@
 -- How a pass goes on through a chain of twos, and what it makes of one work, touch or nothing.
-use Rattle.std.proofs.Common.{◌≡◌, ℕ, suc, ◌+◌, ◌*◌, ◌<◌, ◌≤◌, max, List, [], ◌∷◌, ◌++◌, length, take, drop, Some, None, Ok, Option, sym, refl, ap, ◌∙◌, subst, add-zero, arith, length-append}
+use Rattle.std.proofs.Common.{◌≡◌, ℕ, ◌+◌, ◌<◌, ◌≤◌, max, List, ◌++◌, length, take, drop, Some, None, Ok, Option, sym, refl, ap, ◌∙◌, subst, arith, length-append}
 use Rattle.cycles.specs.declared.node.Node.TheVariants.{Seq}
-use Rattle.cycles.specs.Code.{P, seq, Cache}
+use Rattle.cycles.specs.Code.{P, Cache}
 use Rattle.cycles.specs.Reading.{Begins}
-use Rattle.cycles.specs.Rows.{row, ok, amount}
+use Rattle.cycles.specs.Rows.{row, amount}
 use Rattle.machine.proofs.Times.{Quick}
 use Rattle.trails.specs.Trails.{Keeps}
 use Rattle.trails.proofs.Fronts.{stays}

@@ -1,17 +1,14 @@
 -- What the whole call tells, with the theorems about tables.
-use Rattle.std.proofs.Common.{◌≡◌, ℕ, zero, suc, ◌+◌, ◌-◌, ◌*◌, ◌<◌, ◌≤◌, max, ◌⊎◌, List, [], ◌∷◌, length, take, drop, Some, None, sym, refl, ap, ◌∙◌, subst, inl, inr, ⊎_elim, add-zero, arith, length-append, length-drop}
+use Rattle.std.proofs.Common.{◌≡◌, ℕ, ◌+◌, ◌-◌, ◌<◌, ◌≤◌, List, [], ◌∷◌, length, take, drop, Some, sym, ap, ◌∙◌, subst, inl, inr, ⊎_elim, arith, length-append, length-drop}
 use borrow.Rule.Slice.PartMut.{put_mid}
 use Rattle.std.proofs.lemmas.List.{take_at, length-take-le}
 use Rattle.cycles.specs.Code.{P, Cache, empty}
-use Rattle.cycles.specs.Plays.{widest}
-use Rattle.cycles.specs.Rows.{row, amount, Reads}
-use Rattle.cycles.proofs.Whole.{Parted, parted}
+use Rattle.cycles.specs.Rows.{amount, Reads}
+use Rattle.cycles.proofs.Whole.{parted}
 use Rattle.machine.proofs.States.{all_states}
-use Rattle.trails.specs.declared.telling.Telling.{Telling}
-use Rattle.tables.specs.Best.{Both, Val, Table, Has, first, later, Room, start, told}
-use Rattle.tables.specs.Each.{Each, no_more, also}
-use Rattle.tables.specs.Showing.{Matches, Shown, Shows, width}
-use Rattle.tables.specs.Tables.{need}
+use Rattle.tables.specs.Best.{Both, first, later, Room, start}
+use Rattle.tables.specs.Each.{no_more, also}
+use Rattle.tables.specs.Showing.{Shown, Shows, width}
 use Rattle.tables.proofs.Counts.{need_within, widest_least}
 use Rattle.tables.proofs.Exact.{table_exact}
 use Rattle.tables.proofs.Top.{best_told}

@@ -1,5 +1,5 @@
 -- What a pass over a program does to the table that lent words show.
-use Rattle.std.specs.Prelude.{◌≡◌, ℕ, suc, ◌+◌, ◌*◌, ◌<◌, ◌≤◌, Bool, true, List, [], ◌∷◌, ◌++◌, map, length, take, drop, Some, None, Option}
+use Rattle.std.specs.Prelude.{◌≡◌, ℕ, ◌+◌, ◌*◌, ◌<◌, ◌≤◌, true, List, ◌++◌, map, length, take, drop, Some, None, Option}
 use Rattle.cycles.specs.Code.{P, either, Cache}
 use Rattle.cycles.specs.Rows.{row, ok, amount}
 use Rattle.tables.specs.Best.{Both, Table, Room, told}

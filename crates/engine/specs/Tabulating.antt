@@ -1,5 +1,5 @@
 -- What is promised of the call that computes the table behind a program.
-use Rattle.std.specs.Prelude.{◌≡◌, ℕ, ◌+◌, ◌-◌, ◌*◌, ◌<◌, ◌≤◌, max, ◌⊎◌, List, [], ◌∷◌, length, take, drop}
+use Rattle.std.specs.Prelude.{◌≡◌, ℕ, ◌-◌, ◌*◌, ◌<◌, ◌≤◌, max, ◌⊎◌, List, [], ◌∷◌, length, take, drop}
 use Rattle.cycles.specs.Code.{P, Cache, empty}
 use Rattle.cycles.specs.Plays.{widest}
 use Rattle.cycles.specs.Rows.{Reads}

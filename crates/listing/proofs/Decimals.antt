@@ -7,7 +7,7 @@ use Rattle.listing.specs.declared.text.Flaw.{Flaw}
 use Rattle.listing.specs.declared.text.Mode.TheVariants.{Between, Number}
 use Rattle.listing.specs.declared.text.reading.Sign.TheVariants.{Digit}
 use Rattle.listing.specs.Laws.{CutAnywhere, ReadBack, Row, onward, written, marked, Small}
-use Rattle.listing.specs.Text.{Text, Limits, step, reads, go_on, sign_of, between}
+use Rattle.listing.specs.Text.{Text, Limits, step, reads, go_on, sign_of}
 use Rattle.listing.proofs.Steps.{step_between, step_number, reads_none, reads_cons}
 
 -- a piece more or less

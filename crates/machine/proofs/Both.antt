@@ -1,7 +1,7 @@
 -- Two plays side by side: what each step keeps, the whole keeps.
-use Rattle.std.proofs.Common.{◌≡◌, ℕ, zero, suc, ◌+◌, Bool, true, false, List, [], ◌∷◌, sym, refl, ap, ◌∙◌, subst}
+use Rattle.std.proofs.Common.{◌≡◌, ℕ, zero, suc, ◌+◌, Bool, true, false, List, [], ◌∷◌, subst}
 use mathlib.Core.Option.{Option, some, none}
-use Rattle.cycles.specs.Code.{P, work, touch, seq, either, times, skip, Cache, St, after, cost, place}
+use Rattle.cycles.specs.Code.{P, work, touch, seq, either, times, skip, Cache, after, cost, place}
 use Rattle.cycles.specs.Plays.{At, on, spend, choose, left, which, rounds, play}
 
 -- both stopped, or both at places that R ties

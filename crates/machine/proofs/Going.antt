@@ -1,11 +1,11 @@
 -- How a play goes through words: on behind the first of two, and to its end.
-use Rattle.std.proofs.Common.{◌≡◌, ℕ, zero, suc, ◌+◌, ◌-◌, ◌*◌, ◌<◌, ◌≤◌, max, Bool, true, false, ◌&&◌, ltb, leb, List, [], ◌∷◌, ◌++◌, length, get_or, drop, Some, None, Ok, Option as StdOption, sym, refl, ap, ◌∙◌, subst, append_assoc, append-nil, suc-mul, mul-add, add-one, arith, length-append, length-drop}
-use mathlib.Core.Option.{some, none}
+use Rattle.std.proofs.Common.{◌≡◌, ℕ, ◌+◌, ◌<◌, ◌≤◌, Bool, true, false, List, [], ◌∷◌, ◌++◌, length, get_or, drop, Some, None, Ok, Option as StdOption, sym, refl, ap, ◌∙◌, subst, append_assoc, append-nil, mul-add, arith, length-append, length-drop}
+use mathlib.Core.Option.{some}
 use Rattle.std.proofs.lemmas.List.{drop-drop, drop_at, drop_more, drop_all}
 use Rattle.std.proofs.lemmas.Bool.{and_parts, ltb-true, leb-true}
-use Rattle.cycles.specs.declared.node.Node.TheVariants.{Work, Touch, Seq, Either, Loop, Skip}
-use Rattle.cycles.specs.Code.{pick, P, work, touch, seq, either, times, skip, Cache, place}
-use Rattle.cycles.specs.Plays.{At, on, choose, left, which, rounds, play}
+use Rattle.cycles.specs.declared.node.Node.TheVariants.{Work, Seq, Either, Skip}
+use Rattle.cycles.specs.Code.{pick, P, work, touch, seq, either, Cache, place}
+use Rattle.cycles.specs.Plays.{on, choose, left, which, play}
 use Rattle.cycles.specs.Rows.{row, ok, amount, small}
 use Rattle.cycles.specs.Reading.{Begins}
 use Rattle.cycles.proofs.Unique.{of, same_parts}

@@ -1,9 +1,8 @@
 -- All states behind a program, as they are computed, are those that plays come to.
-use Rattle.std.proofs.Common.{◌≡◌, ℕ, zero, suc, ◌+◌, Bool, true, false, ◌&&◌, ◌||◌, eqb, ◌⊎◌, List, [], ◌∷◌, ◌++◌, sym, refl, ap, ◌∙◌, subst, ap₂, inl, inr, ⊎_elim, arith}
-use mathlib.Core.Option.{Option, some, none}
+use Rattle.std.proofs.Common.{◌≡◌, ℕ, zero, suc, ◌+◌, Bool, true, false, eqb, ◌⊎◌, List, [], ◌∷◌, ◌++◌, sym, refl, subst, ap₂, inl, inr, ⊎_elim}
 use Rattle.std.proofs.lemmas.Bool.{both_ways, or_cases, or_left, or_right, and_parts, and_from, eqb-true, eq-eqb}
-use Rattle.cycles.specs.Code.{pick, P, work, touch, seq, either, times, skip, Cache, St, after, cost, place}
-use Rattle.cycles.specs.Plays.{Play, same_l, same_s, has, both, all_after, loop, through}
+use Rattle.cycles.specs.Code.{P, work, touch, seq, either, times, skip, Cache, St, after, cost, place}
+use Rattle.cycles.specs.Plays.{same_l, same_s, has, both, all_after, loop, through}
 use Rattle.cycles.specs.Says.{AllStates}
 use Rattle.machine.proofs.Lists.{by}
 use Rattle.machine.proofs.Runs.{Run, works, touches, seqs, firsts, seconds, loops, skips, Loop, done, more, Play-is-Run}

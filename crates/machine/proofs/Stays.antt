@@ -1,9 +1,8 @@
 -- A touch keeps a state sound: no line twice, and no more lines in a set than ways.
-use Rattle.std.proofs.Common.{◌≡◌, ℕ, zero, suc, ◌+◌, ◌<◌, ◌≤◌, min, Bool, true, false, ◌&&◌, ◌||◌, eqb, ◌⊎◌, List, [], ◌∷◌, length, take, sym, refl, ap, ◌∙◌, subst, inl, inr, ⊎_elim, arith, length-take}
+use Rattle.std.proofs.Common.{◌≡◌, ℕ, zero, suc, ◌≤◌, true, false, eqb, ◌⊎◌, List, [], ◌∷◌, length, take, sym, refl, ap, ◌∙◌, subst, inl, inr, ⊎_elim, arith, length-take}
 use mathlib.Core.Option.{Option, some, none}
-use Rattle.std.proofs.lemmas.Bool.{both_ways, or_parts, or_cases, or_from, eqb-true, eqb-false, eq-eqb, cases_Bool}
-use Rattle.cycles.specs.Code.{pick, opt, nth, put, P, Cache, St, among, without, line_of, set_of, lines_at, there, come, after}
-use Rattle.cycles.specs.Rows.{Reads}
+use Rattle.std.proofs.lemmas.Bool.{both_ways, or_cases, eqb-true, eq-eqb, cases_Bool}
+use Rattle.cycles.specs.Code.{pick, opt, nth, put, Cache, St, among, without, line_of, set_of, there, come, after}
 use Rattle.cycles.specs.Says.{Sound, StaysSound}
 use Rattle.machine.proofs.Lists.{by, lines}
 

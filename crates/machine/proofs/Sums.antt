@@ -1,11 +1,11 @@
 -- The cycles of a play's events sum to its time.
-use Rattle.std.proofs.Common.{◌≡◌, ℕ, zero, suc, ◌+◌, Bool, true, false, List, [], ◌∷◌, ◌++◌, sym, refl, ap, ◌∙◌, subst, arith}
-use mathlib.Core.Option.{Option, some, none}
+use Rattle.std.proofs.Common.{◌≡◌, ℕ, zero, suc, ◌+◌, Bool, true, false, List, [], ◌∷◌, ◌++◌, ap, arith}
+use mathlib.Core.Option.{Option, some}
 use Rattle.cycles.specs.Code.{pick, P, work, touch, seq, either, times, skip, Cache}
-use Rattle.cycles.specs.Plays.{At, on, choose, left, which, rounds, play}
+use Rattle.cycles.specs.Plays.{At, choose, left, which, rounds, play}
 use Rattle.machine.specs.declared.observer.Event.{Event}
 use Rattle.machine.proofs.Runs.{on_some}
-use Rattle.machine.specs.Trace.{trace, then_trace, choose_trace, rounds_trace, cycles_of, sum_cycles}
+use Rattle.machine.specs.Trace.{trace, then_trace, choose_trace, rounds_trace, sum_cycles}
 
 pub sum_append : (es fs : List Event) → sum_cycles (es ++ fs) ≡ sum_cycles es + sum_cycles fs
 sum_append [] fs = omega arith

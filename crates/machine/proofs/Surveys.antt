@@ -1,6 +1,6 @@
 -- A program gone over by counting the programs that are still to come.
-use Rattle.std.proofs.Common.{◌≡◌, ℕ, zero, suc, ◌+◌, ◌-◌, ◌<◌, ◌≤◌, Bool, true, false, ◌&&◌, List, [], ◌∷◌, ◌++◌, length, drop, Ok, sym, refl, ap, ◌∙◌, subst, append_assoc, append-nil, arith, length-append, length-drop}
-use Rattle.std.proofs.lemmas.List.{drop-drop, drop_at}
+use Rattle.std.proofs.Common.{◌≡◌, ℕ, ◌+◌, ◌-◌, ◌<◌, ◌≤◌, Bool, true, false, ◌&&◌, List, [], ◌∷◌, ◌++◌, length, drop, Ok, sym, refl, ap, ◌∙◌, append_assoc, append-nil, arith, length-append, length-drop}
+use Rattle.std.proofs.lemmas.List.{drop-drop}
 use Rattle.cycles.specs.declared.node.Node.{Node}
 use Rattle.cycles.specs.declared.node.Node.TheVariants.{Work, Touch, Seq, Either, Loop, Skip}
 use Rattle.cycles.specs.Code.{P, work, touch, seq, either, times, skip}

@@ -3,7 +3,7 @@ use Rattle.std.proofs.Common.{◌≡◌, ℕ, zero, suc, ◌+◌, ◌-◌, ◌*�
 use borrow.Rule.Slice.PartMut.{put_mid}
 use Rattle.std.proofs.lemmas.List.{drop-drop, drop_at, take_at, take-take, length-take-le, length-drop, drop-replicate}
 use Rattle.cycles.specs.Code.{Cache, set_of}
-use Rattle.machine.specs.Cells.{lines_of, sets_of, state_of, Blank, Tidy, TidySets, TidyCells}
+use Rattle.machine.specs.Cells.{lines_of, sets_of, Blank, Tidy, TidySets, TidyCells}
 use Rattle.machine.specs.Standings.{Passed}
 use Rattle.machine.proofs.CellLaws.{take_plus, within, behind_first}
 

@@ -1,8 +1,8 @@
 -- What a run takes at most, by how much it does.
-use Rattle.std.proofs.Common.{◌≡◌, ℕ, zero, suc, ◌+◌, ◌*◌, ◌<◌, ◌≤◌, max, Bool, true, false, ◌&&◌, ltb, leb, List, [], ◌∷◌, ◌++◌, sym, refl, ap, ◌∙◌, suc-mul, zero-mul, mul-add, arith}
-use mathlib.Core.Option.{some, none}
+use Rattle.std.proofs.Common.{◌≡◌, ℕ, suc, ◌+◌, ◌*◌, ◌≤◌, Bool, true, false, ◌&&◌, ltb, leb, List, suc-mul, mul-add, arith}
+use mathlib.Core.Option.{some}
 use Rattle.std.proofs.lemmas.Bool.{and_parts, ltb-true}
-use Rattle.cycles.specs.Code.{pick, P, work, touch, seq, either, times, skip, Cache, St, there, cost, place}
+use Rattle.cycles.specs.Code.{pick, P, Cache, St, there, cost, place}
 use Rattle.cycles.specs.Plays.{At, play}
 use Rattle.cycles.specs.Rows.{ok, amount}
 use Rattle.machine.proofs.Runs.{Run, Loop, works, touches, seqs, firsts, seconds, loops, skips, done, more, play_run}

@@ -1,11 +1,11 @@
 -- What a whole call tells of a play.
-use Rattle.std.proofs.Common.{◌≡◌, ℕ, ◌+◌, ◌*◌, ◌<◌, ◌≤◌, Bool, true, false, List, [], ◌∷◌, ◌++◌, length, drop, Some, None, sym, refl, ap, ◌∙◌, subst, arith, length-append, length-drop}
-use mathlib.Core.Option.{some, none}
+use Rattle.std.proofs.Common.{◌≡◌, ℕ, ◌<◌, ◌≤◌, Bool, List, [], length, drop, Some, None, sym, ap, ◌∙◌, arith}
+use mathlib.Core.Option.{some}
 use Rattle.std.proofs.lemmas.List.{drop_all}
 use Rattle.cycles.specs.Code.{P, Cache, empty}
-use Rattle.cycles.specs.Plays.{At, play}
-use Rattle.cycles.specs.Rows.{row, Reads}
-use Rattle.cycles.proofs.Whole.{Parted, parted}
+use Rattle.cycles.specs.Plays.{play}
+use Rattle.cycles.specs.Rows.{Reads}
+use Rattle.cycles.proofs.Whole.{parted}
 use Rattle.machine.specs.declared.observer.Event.{Event}
 use Rattle.machine.specs.declared.player.Place.{Place}
 use Rattle.machine.specs.declared.player.Played.{Played}

@@ -4,7 +4,7 @@ use mathlib.Core.Option.{some, none}
 use Rattle.std.proofs.lemmas.List.{drop-drop}
 use Rattle.std.proofs.lemmas.Bool.{and_parts, ltb-true, leb-true, both_ways}
 use Rattle.cycles.specs.declared.node.Node.TheVariants.{Loop}
-use Rattle.cycles.specs.Code.{pick, P, work, touch, seq, either, times, skip, Cache}
+use Rattle.cycles.specs.Code.{P, work, touch, seq, either, times, skip, Cache}
 use Rattle.cycles.specs.Plays.{At, on, rounds, play}
 use Rattle.cycles.specs.Rows.{row, ok, amount}
 use Rattle.cycles.specs.Reading.{Begins}

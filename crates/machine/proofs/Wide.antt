@@ -1,14 +1,12 @@
 -- Under LRU: a cache with more ways beside one with fewer, and any start beside the empty one. Both are one simulation: each set of the one is a front of the same set of the other.
-use Rattle.std.proofs.Common.{◌≡◌, ℕ, zero, suc, ◌+◌, ◌≤◌, Bool, true, false, ◌&&◌, T, leb, List, [], ◌∷◌, length, replicate, sym, refl, ap, ◌∙◌, subst, arith, leb→le}
-use mathlib.Core.Option.{Option, some, none}
+use Rattle.std.proofs.Common.{◌≡◌, ℕ, suc, ◌≤◌, Bool, true, false, ◌&&◌, T, List, [], refl, arith, leb→le}
 use lib.ListN.{length-replicate}
-use Rattle.std.proofs.lemmas.Bool.{both_ways}
-use Rattle.cycles.specs.Code.{pick, put, P, Cache, St, empty, among, without, line_of, set_of, lines_at, there, come, after, cost}
-use Rattle.cycles.specs.Plays.{At, spend, left, play, Play}
+use Rattle.cycles.specs.Code.{put, P, Cache, St, empty, line_of, set_of, after, cost}
+use Rattle.cycles.specs.Plays.{At, play, Play}
 use Rattle.cycles.specs.Rows.{Reads}
-use Rattle.cycles.specs.Says.{Front, Fronts, widened, Sound, WiderHolds, WiderNeverSlower, EmptyIsWorst}
-use Rattle.machine.proofs.Lists.{by, among_front, use_line, use_front, lines, fronts_at, fronts_put, fronts_empty}
-use Rattle.machine.proofs.Both.{Both, both_some, touched, play_both}
+use Rattle.cycles.specs.Says.{Fronts, WiderHolds, WiderNeverSlower, EmptyIsWorst}
+use Rattle.machine.proofs.Lists.{among_front, use_line, use_front, lines, fronts_at, fronts_put, fronts_empty}
+use Rattle.machine.proofs.Both.{Both, both_some, play_both}
 
 -- the same cache with so many ways to a set
 abbrev pub with_ways : Cache → ℕ → Cache

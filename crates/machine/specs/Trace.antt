@@ -1,9 +1,9 @@
 -- What a play does, event by event.
-use Rattle.std.specs.Prelude.{◌≡◌, ℕ, zero, suc, ◌+◌, Bool, true, false, List, [], ◌∷◌, ◌++◌}
+use Rattle.std.specs.Prelude.{ℕ, zero, suc, ◌+◌, Bool, List, [], ◌∷◌, ◌++◌}
 use Rattle.std.proofs.Math.Option as core
 use Rattle.std.proofs.Math.Option.{some, none}
-use Rattle.cycles.specs.Code.{pick, P, work, touch, seq, either, times, skip, Cache, St, line_of, set_of, there, after, cost, place}
-use Rattle.cycles.specs.Plays.{At, on, spend, left, rounds, play}
+use Rattle.cycles.specs.Code.{pick, P, work, touch, seq, either, times, skip, Cache, line_of, set_of, there, cost, place}
+use Rattle.cycles.specs.Plays.{At, left, play}
 use Rattle.machine.specs.declared.observer.Event.{Event}
 use Rattle.machine.specs.declared.observer.Event.TheVariants.{Work, Touch}
 use Rattle.machine.specs.Cells.{goes}

@@ -1,11 +1,11 @@
 -- A slot of zeros: the empty cache, and tellings of no cycles and no choice.
-use Rattle.std.proofs.Common.{◌≡◌, ℕ, zero, suc, ◌+◌, ◌-◌, List, [], length, get_or, drop, replicate, sym, refl, ap, ◌∙◌, subst}
+use Rattle.std.proofs.Common.{◌≡◌, ℕ, zero, suc, ◌+◌, ◌-◌, List, [], length, get_or, drop, replicate, refl, ap, ◌∙◌}
 use Rattle.std.proofs.lemmas.List.{drop-replicate}
 use Rattle.cycles.specs.Code.{Cache, empty}
 use Rattle.machine.specs.Cells.{state_of, TidyCells}
 use Rattle.trails.specs.Trails.{telling_of, none}
 use Rattle.trails.proofs.Noting.{none_sound, none_tells}
-use Rattle.tables.specs.Best.{Both, Val, start}
+use Rattle.tables.specs.Best.{Both, start}
 use Rattle.tables.specs.Showing.{Matches, Shown, cells}
 use Rattle.tables.proofs.Matching.{matches_as}
 

@@ -1,5 +1,5 @@
 -- Two lists that correspond, element by element.
-use Rattle.std.specs.Prelude.{ℕ, zero, suc, List, [], ◌∷◌}
+use Rattle.std.specs.Prelude.{ℕ, suc, List, [], ◌∷◌}
 
 pub data Each {A B : Type 0} (R : A → B → Type 0) : List A → List B → Type 0 where
   no_more : Each R [] []

@@ -1,5 +1,5 @@
 -- What slots in lent words, with the store of their trails, show: the entries of a table.
-use Rattle.std.specs.Prelude.{◌≡◌, ℕ, ◌+◌, ◌*◌, ◌<◌, ◌≤◌, Bool, true, List, [], ◌∷◌, ◌++◌, length, take, drop}
+use Rattle.std.specs.Prelude.{◌≡◌, ℕ, ◌+◌, ◌*◌, ◌<◌, ◌≤◌, Bool, List, length, take, drop}
 use Rattle.cycles.specs.Code.{pick, Cache}
 use Rattle.machine.specs.Cells.{state_of, TidyCells}
 use Rattle.trails.specs.declared.telling.Telling.{Telling}

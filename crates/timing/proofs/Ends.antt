@@ -1,17 +1,14 @@
 -- The best entries of the table behind a program, and what is told of them.
 use Rattle.std.proofs.Common.{◌≡◌, ℕ, zero, suc, ◌+◌, ◌-◌, ◌*◌, ◌<◌, ◌≤◌, Bool, true, false, List, [], ◌∷◌, ◌++◌, map, length, take, drop, sym, refl, ap, ◌∙◌, subst, append_assoc, arith, length-append, length-drop}
-use lib.ListN.{length-map}
 use borrow.Rule.Slice.PartMut.{put_mid}
 use Rattle.std.proofs.lemmas.List.{take_at, drop_at, drop-drop, length-take-le}
-use Rattle.cycles.specs.Code.{pick, P, Cache, empty}
-use Rattle.cycles.specs.Plays.{widest}
+use Rattle.cycles.specs.Code.{P, Cache}
 use Rattle.cycles.specs.Rows.{Reads}
 use Rattle.cycles.specs.Says.{Longest, Shortest, bits, TimedSays}
-use Rattle.cycles.specs.declared.Timed.TheVariants.{Times, Crowded, OutFull}
+use Rattle.cycles.specs.declared.Timed.TheVariants.{Crowded}
 use Rattle.cycles.proofs.Whole.{one_reading}
 use Rattle.trails.specs.declared.telling.Telling.{Telling}
 use Rattle.trails.specs.Trails.{bit}
-use Rattle.tables.specs.declared.slot.Extreme as extremes
 use Rattle.tables.specs.declared.slot.Extreme.{Extreme}
 use Rattle.tables.specs.declared.slot.Extreme.TheVariants as sought
 use Rattle.tables.specs.Best.{Val, Both, Has, first, later}
@@ -24,9 +21,9 @@ use Rattle.tables.proofs.Top.{best_told}
 use Rattle.engine.specs.declared.tabulate.Tabulated.{Tabulated}
 use Rattle.engine.specs.declared.tabulate.Tabulated.TheVariants as tabulated
 use Rattle.engine.specs.Tabulating.{TabulateSays, asked, behind}
-use Rattle.timing.specs.Retelling.{side, told_at, Fitting, Holding, Tellable}
+use Rattle.timing.specs.Retelling.{side, told_at, Holding, Tellable}
 use Rattle.timing.proofs.Hearing.{at_less, heard_as}
-use Rattle.timing.proofs.Passes.{fits_done, done_holds}
+use Rattle.timing.proofs.Passes.{done_holds}
 
 -- every place has an entry, and every entry a place
 entry_at : {A : Type 0} (k : ℕ) (T : List A) → k < length T → (x : A) × At x k T

@@ -1,11 +1,11 @@
 -- What a held table's tellings say of its entries, and how their choices are written one record after the other.
-use Rattle.std.proofs.Common.{◌≡◌, ℕ, zero, suc, ◌+◌, ◌-◌, ◌*◌, ◌<◌, ◌≤◌, Bool, ◌⊎◌, List, [], ◌∷◌, ◌++◌, map, length, take, drop, sym, refl, ap, ◌∙◌, subst, inl, inr, ⊎_elim, append_assoc, suc-add, zero-add, arith, length-append, length-drop, length-take}
+use Rattle.std.proofs.Common.{◌≡◌, ℕ, zero, suc, ◌+◌, ◌-◌, ◌*◌, ◌<◌, ◌≤◌, Bool, List, [], ◌∷◌, ◌++◌, map, length, take, drop, sym, ap, ◌∙◌, subst, ⊎_elim, append_assoc, suc-add, zero-add, arith, length-append, length-drop}
 use lib.ListN.{length-map}
 use borrow.Rule.Slice.PartMut.{put_mid}
-use Rattle.std.proofs.lemmas.List.{drop-drop, take-take, take_at, take_all, map-append, length-take-le, take-append-le}
+use Rattle.std.proofs.lemmas.List.{drop-drop, take-take, take_at, take_all, map-append, length-take-le}
 use Rattle.cycles.specs.Code.{P, Cache}
 use Rattle.trails.specs.declared.telling.Telling.{Telling}
-use Rattle.trails.specs.Trails.{Sound, Tells, bit, telling_of}
+use Rattle.trails.specs.Trails.{bit, telling_of}
 use Rattle.trails.proofs.Fronts.{sound_within, tells_within}
 use Rattle.tables.specs.declared.slot.Extreme.{Extreme}
 use Rattle.tables.specs.declared.slot.Extreme.TheVariants.{Longest, Shortest}
@@ -18,7 +18,7 @@ use Rattle.tables.proofs.Chunks.{chunk_at, within}
 use Rattle.tables.proofs.Eaches.{each_back}
 use Rattle.tables.proofs.Overs.{front_telling}
 use Rattle.engine.specs.Tabulating.{behind}
-use Rattle.timing.specs.Retelling.{side, other, offset, told_at, Fitting, Holding, Tellable, Still}
+use Rattle.timing.specs.Retelling.{side, offset, told_at, Fitting, Holding}
 
 pub at_less : {A : Type 0} {x : A} {k : ℕ} {xs : List A} → At x k xs → k < length xs
 at_less here = omega arith

@@ -1,5 +1,5 @@
 -- Which of two tellings is at least as good: an order in which any two compare.
-use Rattle.std.proofs.Common.{◌≡◌, ℕ, zero, suc, ◌+◌, ◌<◌, ◌≤◌, Bool, true, false, sym, refl, ap, ◌∙◌, subst, arith, below_more}
+use Rattle.std.proofs.Common.{◌≡◌, ℕ, zero, suc, ◌+◌, ◌<◌, true, false, arith, below_more}
 use Rattle.trails.specs.declared.telling.Telling.{Telling}
 use Rattle.tables.specs.declared.slot.Extreme.{Extreme}
 use Rattle.tables.specs.declared.slot.Extreme.TheVariants.{Longest, Shortest}

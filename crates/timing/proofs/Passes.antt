@@ -1,5 +1,5 @@
 -- A further pass over the same program.
-use Rattle.std.proofs.Common.{◌≡◌, ℕ, ◌*◌, ◌<◌, ◌≤◌, List, [], ◌∷◌, length, take, sym, refl, ap, ◌∙◌, subst, arith}
+use Rattle.std.proofs.Common.{◌≡◌, ℕ, ◌*◌, List, take, refl, ap, ◌∙◌, subst, arith}
 use Rattle.cycles.specs.Code.{P, Cache}
 use Rattle.cycles.specs.Rows.{Reads}
 use Rattle.cycles.proofs.Whole.{one_reading}

@@ -1,5 +1,5 @@
 -- A table that lent words hold, pass after pass, and the play that one of its entries tells.
-use Rattle.std.specs.Prelude.{◌≡◌, ℕ, zero, suc, ◌+◌, ◌*◌, ◌<◌, ◌≤◌, Bool, true, List, [], ◌∷◌, map, length, take, drop}
+use Rattle.std.specs.Prelude.{◌≡◌, ℕ, ◌+◌, ◌*◌, ◌≤◌, List, length, take, drop}
 use Rattle.cycles.specs.Code.{P, Cache}
 use Rattle.cycles.specs.Rows.{Reads}
 use Rattle.trails.specs.declared.telling.Telling.{Telling}

@@ -1,5 +1,4 @@
-use Rattle.std.proofs.Common.{◌≡◌, ℕ, ◌+◌, ◌*◌, ◌≤◌, length, sym, refl, ap, ◌∙◌, subst, arith}
-use Rattle.cycles.specs.Reading.{cache}
+use Rattle.std.proofs.Common.{◌≡◌, ℕ, ◌*◌, ◌≤◌, length, sym, refl, subst, arith}
 use Rattle.cycles.specs.declared.Timed.TheVariants.{NoProgram, Few}
 use Rattle.timing.proofs.Promises.{enough, promised, promised_few, slots_fit}
 use Rattle.timing.proofs.times.Goals as goal

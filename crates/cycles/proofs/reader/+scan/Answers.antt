@@ -1,7 +1,7 @@
-use Rattle.std.proofs.Common.{◌≡◌, ℕ, ◌+◌, ◌*◌, min, max, List, length, drop, Ok, Err, sym, refl, ap, subst, arith, length-drop}
+use Rattle.std.proofs.Common.{◌≡◌, ℕ, List, length, drop, Ok, refl, ap, subst, arith, length-drop}
 use Rattle.std.proofs.lemmas.Result.{err_from_is_err_and}
 use Rattle.cycles.specs.declared.node.Node.{Node}
-use Rattle.cycles.specs.Reading.{Begins, Keeps, Scans}
+use Rattle.cycles.specs.Reading.{Begins, Keeps}
 use Rattle.cycles.proofs.Along.{further, spans_work, spans_skip, spans_touch, spans_to, seq_none, seq_along, either_none_first, either_none_second, spans_either, loop_none, spans_loop}
 use Rattle.cycles.proofs.reader.+scan.Goals as goal
 

@@ -1,4 +1,4 @@
-use Rattle.std.proofs.Common.{◌≡◌, length, get_or, sym, ap, arith}
+use Rattle.std.proofs.Common.{length, get_or, sym, ap, arith}
 use Rattle.cycles.proofs.Limits.{behind, work_over, loop_keeps, judge_seq, judge_either, judge_loop, judges_as, begins_as}
 use Rattle.cycles.proofs.reader.broken_limit.Goals as goal
 

@@ -1,4 +1,4 @@
-use Rattle.std.proofs.Common.{◌≡◌, ◌+◌, ◌∷◌, ◌++◌, length, get_or, drop, sym, ap, ◌∙◌, arith, length-append}
+use Rattle.std.proofs.Common.{◌+◌, length, get_or, drop, ap, ◌∙◌, arith, length-append}
 use borrow.Author.Tests.{both_ways}
 use Rattle.cycles.proofs.Limits.{behind, step_at, touch_keeps}
 use Rattle.cycles.proofs.reader.broken_touch.Goals as goal

@@ -1,9 +1,7 @@
-use Rattle.std.proofs.Common.{◌≡◌, ℕ, ◌+◌, ◌-◌, ◌<◌, ◌≤◌, List, ◌++◌, length, take, drop, Ok, Err, Result, sym, ap, ◌∙◌, subst, add-zero, arith, length-drop, length-take}
-use Rattle.std.proofs.lemmas.List.{take_rest, take-append-drop}
-use Rattle.cycles.specs.declared.node.Node.{Node}
-use Rattle.cycles.specs.declared.fault.Fault.{Fault}
+use Rattle.std.proofs.Common.{◌≡◌, ℕ, ◌+◌, ◌≤◌, List, ◌++◌, length, take, drop, Ok, Err, sym, subst, add-zero, arith, length-drop, length-take}
+use Rattle.std.proofs.lemmas.List.{take-append-drop}
 use Rattle.cycles.specs.declared.fault.Rule.{Rule}
-use Rattle.cycles.specs.Reading.{Begins, Breaks, NoneBegins}
+use Rattle.cycles.specs.Reading.{Breaks}
 use Rattle.cycles.proofs.Fits.{begins_rest}
 use Rattle.cycles.proofs.reader.node_at.Goals as goal
 

@@ -1,7 +1,7 @@
-use Rattle.std.proofs.Common.{◌≡◌, ℕ, ◌+◌, ◌-◌, ◌*◌, ◌<◌, ◌≤◌, List, ◌∷◌, map, length, take, drop, Some, None, sym, refl, ap, ◌∙◌, subst, zero-add, mul-add, arith}
-use Rattle.cycles.specs.Code.{P, Cache, work, touch, skip, times}
+use Rattle.std.proofs.Common.{◌≡◌, ℕ, ◌+◌, ◌-◌, ◌*◌, ◌<◌, ◌≤◌, ◌∷◌, map, length, take, drop, Some, None, sym, refl, ap, ◌∙◌, subst, zero-add, mul-add, arith}
+use Rattle.cycles.specs.Code.{P, work, touch, skip, times}
 use Rattle.cycles.specs.Reading.{cache}
-use Rattle.cycles.specs.Rows.{row, amount}
+use Rattle.cycles.specs.Rows.{amount}
 use Rattle.cycles.specs.declared.geometry.Geometry.{Geometry}
 use Rattle.machine.specs.Around.{around}
 use Rattle.machine.proofs.Times.{Quick}

@@ -1,4 +1,4 @@
-use Rattle.std.proofs.Common.{◌≡◌, ℕ, ◌+◌, ◌-◌, ◌*◌, ◌≤◌, length, take, drop, sym, ap, ◌∙◌, subst, zero-add, mul-add, arith, length-drop}
+use Rattle.std.proofs.Common.{◌≡◌, ℕ, ◌+◌, ◌*◌, ◌≤◌, length, drop, sym, ap, ◌∙◌, subst, zero-add, mul-add, arith, length-drop}
 use Rattle.cycles.specs.Reading.{cache}
 use Rattle.tables.specs.Best.{told}
 use Rattle.tables.specs.Showing.{Shows, width}

@@ -1,12 +1,10 @@
-use Rattle.std.proofs.Common.{◌≡◌, ℕ, zero, suc, ◌+◌, ◌-◌, ◌*◌, ◌≤◌, List, [], ◌∷◌, ◌++◌, length, take, Some, None, sym, refl, ap, ◌∙◌, subst, mul-suc, arith}
+use Rattle.std.proofs.Common.{◌≡◌, ℕ, zero, suc, ◌-◌, ◌*◌, ◌≤◌, [], ◌++◌, length, take, Some, None, sym, refl, subst, mul-suc, arith}
 use borrow.Rule.Slice.PartMut.{post_of}
 use Rattle.std.proofs.lemmas.List.{length-take-le}
 use Rattle.cycles.specs.Code.{Cache}
 use Rattle.cycles.specs.Reading.{cache}
 use Rattle.machine.specs.Around.{around}
-use Rattle.tables.specs.Best.{start}
-use Rattle.tables.specs.Showing.{Shows, firsts_of, width}
-use Rattle.engine.specs.Passing.{Goes}
+use Rattle.tables.specs.Showing.{firsts_of, width}
 use Rattle.engine.proofs.Chains.{goes_as, point}
 use Rattle.engine.proofs.Promised.{promised, front_long, shows_start, whole, ready, told_crowded, told_done}
 use Rattle.engine.proofs.tabulate.tabulate.Goals as goal

@@ -1,15 +1,12 @@
-use Rattle.std.proofs.Common.{◌≡◌, ℕ, ◌+◌, ◌<◌, ◌≤◌, Bool, true, false, List, ◌∷◌, ◌++◌, length, drop, Some, None, Option, sym, refl, ap, ◌∙◌, subst, arith, length-drop}
-use Rattle.cycles.specs.Code.{P, Cache, times}
+use Rattle.std.proofs.Common.{◌≡◌, ℕ, ◌+◌, drop, Some, None, sym, refl, ap, ◌∙◌, subst, arith}
+use Rattle.cycles.specs.Code.{P, times}
 use Rattle.cycles.specs.Reading.{cache}
-use Rattle.cycles.specs.Rows.{row}
 use Rattle.cycles.specs.declared.geometry.Geometry.{Geometry}
 use Rattle.machine.specs.Around.{around}
-use Rattle.machine.specs.declared.observer.Event.{Event}
-use Rattle.machine.specs.declared.player.Place.{Place}
-use Rattle.machine.specs.Playing.{Fit, Came, Goes}
+use Rattle.machine.specs.Playing.{Fit}
 use Rattle.machine.proofs.Times.{Quick}
-use Rattle.machine.proofs.Going.{Onward, onward_start, onward_end, fit_seq, onward_seq, came_work, came_skip, fit_touch, came_touch, fit_either, came_none, came_second, came_first, came_first_none, came_as, goes_as, goes_in, seq_none, stands, ready_as, work_bounds, touch_bounds}
-use Rattle.machine.proofs.Turning.{Turned, Body, body, turned_start, fit_body, turned_more, turned_none, turned_all, came_quiet}
+use Rattle.machine.proofs.Going.{onward_start, onward_end, fit_seq, onward_seq, came_work, came_skip, fit_touch, came_touch, fit_either, came_none, came_second, came_first, came_first_none, came_as, goes_as, goes_in, seq_none, stands, ready_as, work_bounds, touch_bounds}
+use Rattle.machine.proofs.Turning.{Turned, body, turned_start, fit_body, turned_more, turned_none, turned_all, came_quiet}
 use Rattle.machine.proofs.player.+go_go_either_go_rounds.Goals as goal
 
 -- a geometry's hits and misses are quick

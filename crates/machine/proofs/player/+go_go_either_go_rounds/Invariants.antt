@@ -1,7 +1,6 @@
-use Rattle.std.proofs.Common.{◌≡◌, ℕ, ◌+◌, ◌-◌, ◌*◌, ◌≤◌, List, ◌++◌, length, drop}
+use Rattle.std.proofs.Common.{◌≡◌, ℕ, ◌+◌, ◌-◌, ◌*◌, ◌≤◌, List, length}
 use Rattle.cycles.specs.Code.{P, times}
 use Rattle.cycles.specs.Reading.{cache}
-use Rattle.cycles.specs.Rows.{row}
 use Rattle.machine.specs.Around.{around}
 use Rattle.machine.specs.Playing.{Fit}
 use Rattle.machine.proofs.Going.{Onward}

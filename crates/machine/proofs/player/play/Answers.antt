@@ -1,6 +1,6 @@
-use Rattle.std.proofs.Common.{◌≡◌, ◌≤◌, [], length, Some, None, sym, refl, ◌∙◌, subst, arith}
+use Rattle.std.proofs.Common.{[], Some, None, sym, refl, subst, arith}
 use Rattle.cycles.specs.Reading.{cache}
-use Rattle.machine.specs.Playing.{Fit, Ready}
+use Rattle.machine.specs.Playing.{Ready}
 use Rattle.machine.proofs.Going.{goes_in}
 use Rattle.machine.proofs.Tellings.{tells_none}
 use Rattle.machine.proofs.Told.{promised, start_fit, told_whole, told_left_over, told_ran_out}

@@ -1,9 +1,5 @@
-use Rattle.std.proofs.Common.{◌≡◌, ℕ, ◌+◌, ◌-◌, Bool, ◌&&◌, List, ◌++◌, length, take, drop, Ok, Err, Result, sym, subst, arith, length-drop}
-use Rattle.std.proofs.lemmas.List.{take_rest}
-use Rattle.cycles.specs.declared.node.Node.{Node}
-use Rattle.cycles.specs.declared.fault.Rule.{Rule}
+use Rattle.std.proofs.Common.{◌≡◌, ℕ, ◌+◌, Bool, List, ◌++◌, length, drop, sym, subst, arith, length-drop}
 use Rattle.cycles.specs.Code.{P}
-use Rattle.cycles.specs.Reading.{Begins}
 use Rattle.cycles.specs.Rows.{row}
 use Rattle.machine.specs.Playing.{still}
 use Rattle.cycles.proofs.Fits.{fits}

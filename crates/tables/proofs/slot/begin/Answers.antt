@@ -1,4 +1,4 @@
-use Rattle.std.proofs.Common.{◌≡◌, ◌≤◌, length, replicate, sym, ap, ◌∙◌, arith}
+use Rattle.std.proofs.Common.{◌≤◌, length, replicate, sym, ap, ◌∙◌, arith}
 use Rattle.cycles.specs.Reading.{cache}
 use Rattle.tables.specs.Showing.{cells}
 use Rattle.tables.proofs.Beginning.{begun}

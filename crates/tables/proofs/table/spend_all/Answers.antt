@@ -1,4 +1,4 @@
-use Rattle.std.proofs.Common.{◌+◌, ◌-◌, ◌*◌, ◌≤◌, length, drop, subst, arith}
+use Rattle.std.proofs.Common.{◌+◌, ◌*◌, ◌≤◌, length, drop, subst, arith}
 use Rattle.cycles.specs.Code.{Cache}
 use Rattle.cycles.specs.Reading.{cache}
 use Rattle.trails.specs.Trails.{telling_of}

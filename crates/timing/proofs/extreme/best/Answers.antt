@@ -1,4 +1,4 @@
-use Rattle.std.proofs.Common.{◌≡◌, ℕ, ◌+◌, ◌<◌, Bool, true, false, length, sym, ap, ◌∙◌, subst, ap₂, arith}
+use Rattle.std.proofs.Common.{◌≡◌, ℕ, ◌+◌, length, sym, ◌∙◌, subst, ap₂, arith}
 use Rattle.cycles.specs.Reading.{cache}
 use Rattle.trails.specs.declared.telling.Telling.{Telling}
 use Rattle.tables.specs.Showing.{as_good, width}

@@ -1,10 +1,9 @@
-use Rattle.std.proofs.Common.{◌≡◌, ℕ, ◌+◌, ◌-◌, ◌*◌, ◌<◌, ◌≤◌, List, ◌++◌, map, length, take, drop, sym, refl, ap, ◌∙◌, subst, arith, length-drop}
+use Rattle.std.proofs.Common.{◌≡◌, ◌+◌, ◌-◌, ◌*◌, ◌≤◌, length, take, drop, sym, refl, ◌∙◌, subst, arith, length-drop}
 use borrow.Rule.Slice.PartMut.{put_mid, same_len_mid}
 use Rattle.std.proofs.lemmas.List.{take_rest}
 use Rattle.cycles.specs.Reading.{cache}
-use Rattle.trails.specs.Trails.{bit}
 use Rattle.tables.specs.Showing.{firsts_of, width}
-use Rattle.timing.specs.Retelling.{Tellable, Fitting, side}
+use Rattle.timing.specs.Retelling.{Fitting, side}
 use Rattle.timing.proofs.Hearing.{Written, heard_as, entry_fits, heard_long, heard_some, written_first, written_more, written_all}
 use Rattle.timing.proofs.retell.tell_play.Goals as goal
 

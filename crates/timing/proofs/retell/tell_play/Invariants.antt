@@ -1,4 +1,4 @@
-use Rattle.std.proofs.Common.{◌≡◌, ℕ, ◌-◌, ◌≤◌, length}
+use Rattle.std.proofs.Common.{◌≡◌, ◌-◌, ◌≤◌, length}
 use Rattle.cycles.specs.Reading.{cache}
 use Rattle.timing.specs.Retelling.{Still, Tellable, other, side}
 use Rattle.timing.proofs.Hearing.{Written}

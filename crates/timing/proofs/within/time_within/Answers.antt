@@ -1,18 +1,13 @@
-use Rattle.std.proofs.Common.{◌≡◌, ℕ, ◌+◌, ◌-◌, ◌*◌, ◌<◌, ◌≤◌, List, ◌++◌, map, length, take, drop, sym, refl, ap, ◌∙◌, subst, ap₂, arith, length-append, length-drop}
-use lib.ListN.{length-map}
+use Rattle.std.proofs.Common.{◌≡◌, ℕ, ◌+◌, ◌-◌, ◌*◌, ◌<◌, ◌≤◌, ◌++◌, map, length, take, drop, sym, refl, ◌∙◌, subst, ap₂, arith}
 use borrow.Rule.Slice.PartMut.{put_mid}
-use Rattle.std.proofs.lemmas.List.{length-take-le}
 use Rattle.cycles.specs.Reading.{cache}
-use Rattle.cycles.specs.Says.{bits, TimedSays}
-use Rattle.cycles.specs.declared.Timed.{Timed}
 use Rattle.cycles.specs.declared.Timed.TheVariants.{Times, Crowded, OutFull, Few}
 use Rattle.trails.specs.Trails.{bit}
 use Rattle.tables.specs.declared.slot.Extreme.TheVariants.{Longest, Shortest}
 use Rattle.tables.specs.Best.{Both}
 use Rattle.tables.specs.Showing.{width}
 use Rattle.tables.proofs.Chunks.{within, up_to}
-use Rattle.timing.specs.Retelling.{Tellable, Still}
-use Rattle.timing.proofs.Ends.{Chosen, chosen, is_longest, is_shortest, told_crowded, many, some, few_enough, enough, held, tellable, bits_map, first_long, second_long, both_told, both_kept}
+use Rattle.timing.proofs.Ends.{chosen, is_longest, is_shortest, told_crowded, many, some, few_enough, enough, held, tellable, bits_map, first_long, second_long, both_told, both_kept}
 use Rattle.timing.proofs.within.time_within.Goals as goal
 use Rattle.timing.proofs.within.time_within.Goals.{then-longest-bytes-via-then-longest-bytes, then-longest-bytes-via-else-longest-bytes+then-shortest-bytes}
 

@@ -1,4 +1,4 @@
-use Rattle.std.proofs.Common.{◌-◌, get_or, sym, ◌∙◌, arith}
+use Rattle.std.proofs.Common.{◌-◌, sym, ◌∙◌, arith}
 use Rattle.machine.proofs.Addresses.{below_at, small_at, place_more, place_all, step_bound}
 use Rattle.machine.proofs.rounds.Rounds.address.Goals as goal
 
