@@ -22,6 +22,7 @@ import sys
 SIGNATURE = re.compile(r"^\s*(?:abbrev |unfoldable )?(?:pub )?(?:abbrev |unfoldable |data |record )?(?:pub )?([^\s(){}.;,:]+)\s*(?:\([^=]*)?:\s(.*)$")
 # A name ends where neither a letter, a digit, nor a sign that names may hold stands.
 PART = r"[\w\-'′·+]"
+# What imports are called in one file alone, so that two of them may be called alike.
 ALIASES = {"cacheOf": "cache_of", "cache-of": "cache_of"}
 
 
@@ -48,8 +49,8 @@ def respelled(name, is_fact):
 def pairs():
     names = declared()
     turned = {n: respelled(n, all(facts)) for n, facts in names.items()}
-    turned.update(ALIASES)
     new = {n: m for n, m in turned.items() if n != m}
+    new.update(ALIASES)
     seen = {}
     for n, m in turned.items():
         if m in seen:
