@@ -23,7 +23,7 @@ SIGNATURE = re.compile(r"^\s*(?:abbrev |unfoldable )?(?:pub )?(?:abbrev |unfolda
 # A name ends where neither a letter, a digit, nor a sign that names may hold stands.
 PART = r"[\w\-'′·+]"
 # What imports are called in one file alone, so that two of them may be called alike.
-ALIASES = {"cacheOf": "cache_of", "cache-of": "cache_of"}
+ALIASES = {"cacheOf": "cache_of", "cache-of": "cache_of", "Cells-of": "cells_of", "offset-of": "offset_of", "width_of_lem": "width_of"}
 
 
 def declared():

@@ -1,11 +1,13 @@
 -- Words that are a cache and a program, all of them.
-use Rattle.std.proofs.Common.{◌≡◌, ℕ, ◌+◌, ◌<◌, ◌≤◌, Bool, true, false, ◌&&◌, T, leb, List, [], ◌++◌, length, drop, sym, refl, ap, ◌∙◌, subst, append-nil, arith, length-drop}
+use Rattle.std.proofs.Common.{◌≡◌, ℕ, ◌+◌, ◌<◌, ◌≤◌, Bool, true, false, ◌&&◌, T, leb, List, [], ◌++◌, length, drop, Ok, Err, sym, refl, ap, ◌∙◌, subst, append-nil, arith, length-drop}
 use Rattle.std.proofs.lemmas.List.{drop_all}
 use Rattle.std.proofs.lemmas.Bool.{and_parts, and_from, leb-true, le-leb}
 use Rattle.cycles.specs.Code.{pick, P, Cache}
 use Rattle.cycles.specs.Rows.{row, row_c, ok, ok_c, deep, amount, Reads}
 use Rattle.cycles.specs.Says.{OneReading}
-use Rattle.cycles.specs.Reading.{Spans, NoneBegins}
+use Rattle.cycles.specs.declared.fault.Rule.TheVariants.{Amount}
+use Rattle.cycles.specs.declared.reader.Extent.{Extent}
+use Rattle.cycles.specs.Reading.{Spans, Scans, NoneBegins, ReadPost}
 use Rattle.cycles.proofs.Unique.{unique}
 
 is_true : (b : Bool) → T b → b ≡ true
@@ -69,3 +71,8 @@ one_reading s c d p q a b =
     let same : cache c.sets c.ways c.line c.hit c.miss c.used ≡ cache d.sets d.ways d.line d.hit d.miss d.used = cc in
     let r : row p ≡ row q = cc in
     (same, (unique p q [] [] (append-nil (row p) ∙ r ∙ sym (append-nil (row q)))).0)
+
+-- what is told of a program that does too much
+pub too_much : (ws : List ℕ) (e : Extent) → Scans ws 0 0 6 (Ok e) → 4294967297 ≤ e.load.amount → ReadPost ws (Err (record { place = e.load.place; rule = Amount }))
+too_much ws e f b =
+    record { says = (omega (arith, f.0.within, f.1), λ d p r. let h = all_of_it ws _ _ f.0 d p r in omega arith); one = one_reading }

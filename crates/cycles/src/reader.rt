@@ -235,6 +235,7 @@ fn read_geometry(words: &[u32]) -> Result<Geometry, Fault>
 }
 
 // The cache that the words begin with, if behind it stands a program that ends with them; else the first rule that is found broken.
+#[tactic(auto, using(crate::proofs::Whole::too_much))]
 pub fn read(words: &[u32]) -> Result<Geometry, Fault>
     ensures { ReadPost words.now result }
 {

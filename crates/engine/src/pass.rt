@@ -4,7 +4,7 @@ ghost use Rattle.cycles.specs.Reading.{Begins, cache as cache_of};
 ghost use Rattle.engine.specs.Passing.{Came, Forks, Goes, Ready, Task};
 ghost use Rattle.machine.specs.Around.{around};
 ghost use Rattle.tables.specs.Best.{Both, Table, told};
-ghost use Rattle.tables.specs.Showing.{Shows, firsts_of, width as width_of_lem};
+ghost use Rattle.tables.specs.Showing.{Shows, firsts_of, width as width_of};
 ghost use Rattle.tables.specs.Tables.{chose, dedup};
 
 use cycles::geometry::Geometry;
@@ -64,7 +64,7 @@ pub fn run(
     store: &mut [u32],
 ) -> Option<Point>
     requires ready { Ready (cache_of pass.cache) (firsts_of pass.firsts) pass.words.now rounds.depth from room 0 slots.old store.old }
-    requires slots { width_of_lem (cache_of pass.cache) * room ≤ length slots.old }
+    requires slots { width_of (cache_of pass.cache) * room ≤ length slots.old }
     ensures { Goes (cache_of pass.entry.cache) (firsts_of pass.entry.firsts) (around rounds.at rounds.depth) pass.entry.words.now rounds.depth from room slots.old slots.new store.old store.new result }
 {
     let mut here = from;
@@ -103,10 +103,10 @@ fn run_branch(
     store: &mut [u32],
 ) -> Option<Point>
     requires keeps { keep + from.count ≤ room }
-    requires slots { width_of_lem (cache_of pass.cache) * room ≤ length slots.old }
-    requires ready { Ready (cache_of pass.cache) (firsts_of pass.firsts) pass.words.now rounds.depth from (room - keep) 1 (drop (width_of_lem (cache_of pass.cache) * keep) slots.old) store.old }
-    ensures kept { take (width_of_lem (cache_of pass.entry.cache) * keep) slots.new ≡ take (width_of_lem (cache_of pass.entry.cache) * keep) slots.old }
-    ensures ran { (k : Task (cache_of pass.entry.cache) (firsts_of pass.entry.firsts) pass.entry.words.now rounds.depth from (drop (width_of_lem (cache_of pass.entry.cache) * keep) slots.old) store.old) → Came (cache_of pass.entry.cache) (firsts_of pass.entry.firsts) (around rounds.at rounds.depth) k.p (map (chose told choice) k.T) from (room - keep) (drop (width_of_lem (cache_of pass.entry.cache) * keep) slots.new) store.old store.new result }
+    requires slots { width_of (cache_of pass.cache) * room ≤ length slots.old }
+    requires ready { Ready (cache_of pass.cache) (firsts_of pass.firsts) pass.words.now rounds.depth from (room - keep) 1 (drop (width_of (cache_of pass.cache) * keep) slots.old) store.old }
+    ensures kept { take (width_of (cache_of pass.entry.cache) * keep) slots.new ≡ take (width_of (cache_of pass.entry.cache) * keep) slots.old }
+    ensures ran { (k : Task (cache_of pass.entry.cache) (firsts_of pass.entry.firsts) pass.entry.words.now rounds.depth from (drop (width_of (cache_of pass.entry.cache) * keep) slots.old) store.old) → Came (cache_of pass.entry.cache) (firsts_of pass.entry.firsts) (around rounds.at rounds.depth) k.p (map (chose told choice) k.T) from (room - keep) (drop (width_of (cache_of pass.entry.cache) * keep) slots.new) store.old store.new result }
 {
     let part = &mut slots[width(pass.cache) * keep..];
     let top = note_all(
@@ -128,9 +128,9 @@ fn run_branch(
 
 // Keeps each state once in the slots behind those that are kept.
 fn settle(slots: &mut [u32], cache: Geometry, keep: usize, count: usize) -> usize
-    requires { width_of_lem (cache_of cache) * (keep + count) ≤ length slots.old }
-    ensures kept { take (width_of_lem (cache_of cache) * keep) slots.new ≡ take (width_of_lem (cache_of cache) * keep) slots.old }
-    ensures shows { (a : Both ℕ) (s : List ℕ) (T : Table) → Shows (cache_of cache) a s count (drop (width_of_lem (cache_of cache) * keep) slots.old) T → Shows (cache_of cache) a s result (drop (width_of_lem (cache_of cache) * keep) slots.new) (dedup told.best T) }
+    requires { width_of (cache_of cache) * (keep + count) ≤ length slots.old }
+    ensures kept { take (width_of (cache_of cache) * keep) slots.new ≡ take (width_of (cache_of cache) * keep) slots.old }
+    ensures shows { (a : Both ℕ) (s : List ℕ) (T : Table) → Shows (cache_of cache) a s count (drop (width_of (cache_of cache) * keep) slots.old) T → Shows (cache_of cache) a s result (drop (width_of (cache_of cache) * keep) slots.new) (dedup told.best T) }
     ensures few { result ≤ count }
 {
     gather(&mut slots[width(cache) * keep..], cache, 0, 0, count)
@@ -147,7 +147,7 @@ fn run_first(
     store: &mut [u32],
 ) -> Option<Fork>
     requires ready { Ready (cache_of pass.cache) (firsts_of pass.firsts) pass.words.now rounds.depth from room 0 slots.old store.old }
-    requires slots { width_of_lem (cache_of pass.cache) * room ≤ length slots.old }
+    requires slots { width_of (cache_of pass.cache) * room ≤ length slots.old }
     requires either { Begins (drop from.at pass.words.now) (Ok Either) }
     ensures { (k : Task (cache_of pass.entry.cache) (firsts_of pass.entry.firsts) pass.entry.words.now rounds.depth from slots.old store.old) → Forks (cache_of pass.entry.cache) (firsts_of pass.entry.firsts) (around rounds.at rounds.depth) pass.entry.words.now rounds.depth room k.p k.T from slots.new store.old store.new result }
 {
@@ -183,7 +183,7 @@ fn run_either(
     store: &mut [u32],
 ) -> Option<Point>
     requires ready { Ready (cache_of pass.cache) (firsts_of pass.firsts) pass.words.now rounds.depth from room 0 slots.old store.old }
-    requires slots { width_of_lem (cache_of pass.cache) * room ≤ length slots.old }
+    requires slots { width_of (cache_of pass.cache) * room ≤ length slots.old }
     requires either { Begins (drop from.at pass.words.now) (Ok Either) }
     ensures { Goes (cache_of pass.entry.cache) (firsts_of pass.entry.firsts) (around rounds.at rounds.depth) pass.entry.words.now rounds.depth from room slots.old slots.new store.old store.new result }
 {
@@ -214,7 +214,7 @@ fn run_rounds(
     store: &mut [u32],
 ) -> Option<Point>
     requires ready { Ready (cache_of pass.cache) (firsts_of pass.firsts) pass.words.now rounds.depth from room 0 slots.old store.old }
-    requires slots { width_of_lem (cache_of pass.cache) * room ≤ length slots.old }
+    requires slots { width_of (cache_of pass.cache) * room ≤ length slots.old }
     requires rounds { Begins (drop from.at pass.words.now) (Ok (Loop count)) }
     ensures { Goes (cache_of pass.entry.cache) (firsts_of pass.entry.firsts) (around rounds.at rounds.depth) pass.entry.words.now rounds.depth from room slots.old slots.new store.old store.new result }
 {

@@ -1,7 +1,7 @@
 ghost use Rattle.std.specs.Prelude.{◌≡◌, ℕ, ◌+◌, ◌*◌, ◌<◌, ◌≤◌, List, [], ◌∷◌, length, take, drop};
 ghost use Rattle.cycles.specs.Reading.{cache as cache_of};
 ghost use Rattle.tables.specs.Best.{Both, Val, plus, start, told};
-ghost use Rattle.tables.specs.Showing.{Grown, Matches, Notable, Put, Retold, Shown, as_good, better_of, cells as Cells-of, firsts_of, later, width as width_of_lem};
+ghost use Rattle.tables.specs.Showing.{Grown, Matches, Notable, Put, Retold, Shown, as_good, better_of, cells as cells_of, firsts_of, later, width as width_of};
 ghost use Rattle.tables.specs.Tables.{Entry, chose, touched};
 ghost use Rattle.trails.specs.Trails.{Keeps, telling_of};
 
@@ -30,14 +30,14 @@ pub struct Firsts {
 
 // How many words the cells of a state take.
 pub fn cells(cache: Geometry) -> usize
-    ensures { result ≡ Cells-of (cache_of cache) }
+    ensures { result ≡ cells_of (cache_of cache) }
 {
     cache.sets as usize * cache.ways as usize
 }
 
 // How many words a slot takes: the cells, and the tellings of a longest and of a shortest time.
 pub fn width(cache: Geometry) -> usize
-    ensures { result ≡ width_of_lem (cache_of cache) }
+    ensures { result ≡ width_of (cache_of cache) }
 {
     cells(cache) + 2 * TELLING
 }
@@ -115,7 +115,7 @@ fn note_at(
 
 // Writes where every play begins: the empty cache, and tellings of no cycles and no choice.
 pub fn begin(slot: &mut [u32], cache: Geometry)
-    requires { width_of_lem (cache_of cache) ≤ length slot.old }
+    requires { width_of (cache_of cache) ≤ length slot.old }
     ensures { (a : Both ℕ) (s : List ℕ) → Shown (cache_of cache) a s slot.new (start (cache_of cache)) }
 {
     clear(slot);
@@ -143,10 +143,10 @@ pub fn improve(slot: &mut [u32], cells: usize, long: Telling, short: Telling)
 
 // Touches an address in the state of a slot, and spends its cycles.
 pub fn touch_slot(slot: &mut [u32], cache: Geometry, address: u32)
-    requires fits { width_of_lem (cache_of cache) ≤ length slot.old }
+    requires fits { width_of (cache_of cache) ≤ length slot.old }
     requires low { address < 4294967295 }
-    requires long { (telling_of (drop (Cells-of (cache_of cache)) slot.old)).time + 65535 < 18446744073709551616 }
-    requires short { (telling_of (drop (Cells-of (cache_of cache) + 7) slot.old)).time + 65535 < 18446744073709551616 }
+    requires long { (telling_of (drop (cells_of (cache_of cache)) slot.old)).time + 65535 < 18446744073709551616 }
+    requires short { (telling_of (drop (cells_of (cache_of cache) + 7) slot.old)).time + 65535 < 18446744073709551616 }
     ensures { (a : Both ℕ) (s : List ℕ) (e : Entry (Both Val)) → Shown (cache_of cache) a s slot.old e → Shown (cache_of cache) a s slot.new (touched told (cache_of cache) address e) }
 {
     let touched = touch(slot, cache, address);
@@ -162,10 +162,10 @@ pub fn note_slot(
     firsts: Firsts,
     choice: bool,
 ) -> usize
-    requires fits { width_of_lem (cache_of cache) ≤ length slot.old }
+    requires fits { width_of (cache_of cache) ≤ length slot.old }
     requires within { top ≤ length store.old }
-    requires long { Notable firsts.long.0 (take top store.old) (telling_of (drop (Cells-of (cache_of cache)) slot.old)) }
-    requires short { Notable firsts.short.0 (take top store.old) (telling_of (drop (Cells-of (cache_of cache) + 7) slot.old)) }
+    requires long { Notable firsts.long.0 (take top store.old) (telling_of (drop (cells_of (cache_of cache)) slot.old)) }
+    requires short { Notable firsts.short.0 (take top store.old) (telling_of (drop (cells_of (cache_of cache) + 7) slot.old)) }
     ensures grown { Grown top result store.old store.new }
     ensures keeps { Keeps (take top store.old) (take result store.new) }
     ensures shows { (e : Entry (Both Val)) → Shown (cache_of cache) (firsts_of firsts) (take top store.old) slot.old e → Shown (cache_of cache) (firsts_of firsts) (take result store.new) slot.new (chose told choice e) }

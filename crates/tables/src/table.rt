@@ -1,7 +1,7 @@
 ghost use Rattle.std.specs.Prelude.{◌≡◌, ℕ, ◌+◌, ◌*◌, ◌<◌, ◌≤◌, List, ◌++◌, map, length, take, drop, MatchOption};
 ghost use Rattle.cycles.specs.Reading.{cache as cache_of};
 ghost use Rattle.tables.specs.Best.{Both, Table, Val, told};
-ghost use Rattle.tables.specs.Showing.{Grown, Showing, Shown, Shows, Spendable, cells as Cells-of, firsts_of, width as width_of_lem};
+ghost use Rattle.tables.specs.Showing.{Grown, Showing, Shown, Shows, Spendable, cells as cells_of, firsts_of, width as width_of};
 ghost use Rattle.tables.specs.Slots.{Absent, Found, chunk};
 ghost use Rattle.tables.specs.Tables.{Entry, chose, gather as gathered, join as joined, spent, touched};
 ghost use Rattle.trails.specs.Trails.{Keeps};
@@ -15,7 +15,7 @@ pub struct StateIndex(pub usize);
 
 // Spends cycles in each of the first n slots.
 pub fn spend_all(slots: &mut [u32], cache: Geometry, n: usize, cycles: u32)
-    requires fits { width_of_lem (cache_of cache) * n ≤ length slots.old }
+    requires fits { width_of (cache_of cache) * n ≤ length slots.old }
     requires few { cycles ≤ 65535 }
     requires room { Spendable (cache_of cache) n slots.old }
     ensures { (a : Both ℕ) (s : List ℕ) (T : Table) → Shows (cache_of cache) a s n slots.old T → Shows (cache_of cache) a s n slots.new (map (spent told cycles) T) }
@@ -29,7 +29,7 @@ pub fn spend_all(slots: &mut [u32], cache: Geometry, n: usize, cycles: u32)
 
 // Touches an address in each of the first n slots.
 pub fn touch_all(slots: &mut [u32], cache: Geometry, n: usize, address: u32)
-    requires fits { width_of_lem (cache_of cache) * n ≤ length slots.old }
+    requires fits { width_of (cache_of cache) * n ≤ length slots.old }
     requires low { address < 4294967295 }
     requires room { Spendable (cache_of cache) n slots.old }
     ensures { (a : Both ℕ) (s : List ℕ) (T : Table) → Shows (cache_of cache) a s n slots.old T → Shows (cache_of cache) a s n slots.new (map (touched told (cache_of cache) address) T) }
@@ -51,7 +51,7 @@ pub fn note_all(
     firsts: Firsts,
     choice: bool,
 ) -> usize
-    requires fits { width_of_lem (cache_of cache) * n ≤ length slots.old }
+    requires fits { width_of (cache_of cache) * n ≤ length slots.old }
     requires within { top ≤ length store.old }
     requires showing { Showing (cache_of cache) (firsts_of firsts) (take top store.old) n slots.old 1 }
     ensures grown { Grown top result store.old store.new }
@@ -77,8 +77,8 @@ pub fn note_all(
 // The first of m slots with the state of the i-th, which stands behind them.
 pub fn find(slots: &[u32], cache: Geometry, m: usize, i: usize) -> Option<StateIndex>
     requires order { m ≤ i }
-    requires fits { width_of_lem (cache_of cache) * i + width_of_lem (cache_of cache) ≤ length slots.now }
-    ensures { MatchOption result (Absent slots.now (width_of_lem (cache_of cache)) m (take (Cells-of (cache_of cache)) (drop (width_of_lem (cache_of cache) * i) slots.now))) (λ k. Found slots.now (width_of_lem (cache_of cache)) m (take (Cells-of (cache_of cache)) (drop (width_of_lem (cache_of cache) * i) slots.now)) k.0) }
+    requires fits { width_of (cache_of cache) * i + width_of (cache_of cache) ≤ length slots.now }
+    ensures { MatchOption result (Absent slots.now (width_of (cache_of cache)) m (take (cells_of (cache_of cache)) (drop (width_of (cache_of cache) * i) slots.now))) (λ k. Found slots.now (width_of (cache_of cache)) m (take (cells_of (cache_of cache)) (drop (width_of (cache_of cache) * i) slots.now)) k.0) }
 {
     let cells = cells(cache);
     let width = width(cache);
@@ -106,8 +106,8 @@ pub fn find(slots: &[u32], cache: Geometry, m: usize, i: usize) -> Option<StateI
 // Copies the i-th slot over the m-th, which stands before it or is the same.
 fn move_slot(slots: &mut [u32], cache: Geometry, m: usize, i: usize)
     requires order { m ≤ i }
-    requires fits { width_of_lem (cache_of cache) * i + width_of_lem (cache_of cache) ≤ length slots.old }
-    ensures { slots.new ≡ Rattle.tables.specs.Slots.over slots.old (width_of_lem (cache_of cache) * m) (chunk (width_of_lem (cache_of cache)) i slots.old) }
+    requires fits { width_of (cache_of cache) * i + width_of (cache_of cache) ≤ length slots.old }
+    ensures { slots.new ≡ Rattle.tables.specs.Slots.over slots.old (width_of (cache_of cache) * m) (chunk (width_of (cache_of cache)) i slots.old) }
 {
     let width = width(cache);
     let to = width * m;
@@ -120,10 +120,10 @@ fn move_slot(slots: &mut [u32], cache: Geometry, m: usize, i: usize)
 // Joins the i-th slot to the first m: its state's slot keeps the better of each telling, or it becomes the last of them.
 pub fn join(slots: &mut [u32], cache: Geometry, m: usize, i: usize) -> usize
     requires order { m ≤ i }
-    requires fits { width_of_lem (cache_of cache) * i + width_of_lem (cache_of cache) ≤ length slots.old }
-    ensures shows { (a : Both ℕ) (s : List ℕ) (T : Table) (e : Entry (Both Val)) → Shows (cache_of cache) a s m slots.old T → Shown (cache_of cache) a s (chunk (width_of_lem (cache_of cache)) i slots.old) e → Shows (cache_of cache) a s result slots.new (joined told.best T e) }
+    requires fits { width_of (cache_of cache) * i + width_of (cache_of cache) ≤ length slots.old }
+    ensures shows { (a : Both ℕ) (s : List ℕ) (T : Table) (e : Entry (Both Val)) → Shows (cache_of cache) a s m slots.old T → Shown (cache_of cache) a s (chunk (width_of (cache_of cache)) i slots.old) e → Shows (cache_of cache) a s result slots.new (joined told.best T e) }
     ensures few { (m ≤ result) × (result ≤ m + 1) }
-    ensures rest { drop (width_of_lem (cache_of cache) * i + width_of_lem (cache_of cache)) slots.new ≡ drop (width_of_lem (cache_of cache) * i + width_of_lem (cache_of cache)) slots.old }
+    ensures rest { drop (width_of (cache_of cache) * i + width_of (cache_of cache)) slots.new ≡ drop (width_of (cache_of cache) * i + width_of (cache_of cache)) slots.old }
 {
     match find(slots, cache, m, i) {
         Some(found) => {
@@ -145,8 +145,8 @@ pub fn join(slots: &mut [u32], cache: Geometry, m: usize, i: usize) -> usize
 // Joins so many slots from one on, in order, to the first m, and says how many there are then.
 pub fn gather(slots: &mut [u32], cache: Geometry, m: usize, from: usize, count: usize) -> usize
     requires order { m ≤ from }
-    requires fits { width_of_lem (cache_of cache) * (from + count) ≤ length slots.old }
-    ensures shows { (a : Both ℕ) (s : List ℕ) (T U : Table) → Shows (cache_of cache) a s m slots.old T → Shows (cache_of cache) a s count (drop (width_of_lem (cache_of cache) * from) slots.old) U → Shows (cache_of cache) a s result slots.new (gathered told.best T U) }
+    requires fits { width_of (cache_of cache) * (from + count) ≤ length slots.old }
+    ensures shows { (a : Both ℕ) (s : List ℕ) (T U : Table) → Shows (cache_of cache) a s m slots.old T → Shows (cache_of cache) a s count (drop (width_of (cache_of cache) * from) slots.old) U → Shows (cache_of cache) a s result slots.new (gathered told.best T U) }
     ensures few { result ≤ m + count }
 {
     let mut all = m;
@@ -158,9 +158,9 @@ pub fn gather(slots: &mut [u32], cache: Geometry, m: usize, from: usize, count: 
 
 // Copies the first n slots behind themselves.
 pub fn duplicate(slots: &mut [u32], cache: Geometry, n: usize)
-    requires { width_of_lem (cache_of cache) * n + width_of_lem (cache_of cache) * n ≤ length slots.old }
-    ensures front { take (width_of_lem (cache_of cache) * n) slots.new ≡ take (width_of_lem (cache_of cache) * n) slots.old }
-    ensures back { take (width_of_lem (cache_of cache) * n) (drop (width_of_lem (cache_of cache) * n) slots.new) ≡ take (width_of_lem (cache_of cache) * n) slots.old }
+    requires { width_of (cache_of cache) * n + width_of (cache_of cache) * n ≤ length slots.old }
+    ensures front { take (width_of (cache_of cache) * n) slots.new ≡ take (width_of (cache_of cache) * n) slots.old }
+    ensures back { take (width_of (cache_of cache) * n) (drop (width_of (cache_of cache) * n) slots.new) ≡ take (width_of (cache_of cache) * n) slots.old }
 {
     let words = width(cache) * n;
     for j in 0..words {
@@ -170,8 +170,8 @@ pub fn duplicate(slots: &mut [u32], cache: Geometry, n: usize)
 
 // Brings the m slots behind the first n before them.
 pub fn exchange(slots: &mut [u32], cache: Geometry, n: usize, m: usize)
-    requires { width_of_lem (cache_of cache) * (n + m) ≤ length slots.old }
-    ensures { slots.new ≡ take (width_of_lem (cache_of cache) * m) (drop (width_of_lem (cache_of cache) * n) slots.old) ++ (take (width_of_lem (cache_of cache) * n) slots.old ++ drop (width_of_lem (cache_of cache) * (n + m)) slots.old) }
+    requires { width_of (cache_of cache) * (n + m) ≤ length slots.old }
+    ensures { slots.new ≡ take (width_of (cache_of cache) * m) (drop (width_of (cache_of cache) * n) slots.old) ++ (take (width_of (cache_of cache) * n) slots.old ++ drop (width_of (cache_of cache) * (n + m)) slots.old) }
 {
     let width = width(cache);
     slots[0..width * (n + m)].rotate_left(width * n);

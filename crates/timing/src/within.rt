@@ -4,7 +4,7 @@ ghost use Rattle.cycles.specs.Reading.{cache as cache_of};
 ghost use Rattle.cycles.specs.Rows.{Reads};
 ghost use Rattle.cycles.specs.Says.{TimedSays};
 ghost use Rattle.cycles.specs.declared.Timed.TheVariants.{Few};
-ghost use Rattle.tables.specs.Showing.{width as width_of_lem};
+ghost use Rattle.tables.specs.Showing.{width as width_of};
 
 use crate::extreme::{best, telling_of};
 use crate::retell::{Teller, tell_play};
@@ -30,7 +30,7 @@ pub(crate) fn time_within(
     store: &mut [u32],
 ) -> Timed
     requires reads { (p : P) × Reads words.now (cache_of cache) p }
-    requires fits { width_of_lem (cache_of cache) * most ≤ length slots.old }
+    requires fits { width_of (cache_of cache) * most ≤ length slots.old }
     ensures says { TimedSays words.now most choices.old choices.new result }
     ensures enough { result ≢ Few }
 {

@@ -20,13 +20,8 @@ returns-then-program-words c =
     let f = c.in_ok-program.ensures in
     record { says = (c.if-program-words.true, λ d p r. let h = all_of_it c.args.words.now _ _ f.0 d p r in omega arith); one = one_reading }
 
-pub returns-then-program-ge-TOO_MUCH : goal.returns-then-program-ge-TOO_MUCH
-returns-then-program-ge-TOO_MUCH c =
-    let f = c.in_ok-program.ensures in
-    record { says = (omega (arith, f.0.within, f.1), λ d p r. let h = all_of_it c.args.words.now _ _ f.0 d p r in omega arith); one = one_reading }
-
 pub returns : goal.returns
 returns c =
     let g = c.in_ok-geometry.ensures in
     let f = c.in_ok-program.ensures in
-    record { says = whole c.args.words.now _ _ _ g.0 g.1 f.0 c.if-program-words.false c.if-program-ge-TOO_MUCH.false; one = one_reading }
+    record { says = whole c.args.words.now _ _ _ g.0 g.1 f.0 c.if-program-words.false (omega arith); one = one_reading }
