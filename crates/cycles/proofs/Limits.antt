@@ -1,7 +1,8 @@
 -- Nodes that break a limit: where, and that no program begins so.
-use Rattle.std.proofs.Common.{◌≡◌, ℕ, ◌+◌, ◌<◌, ◌≤◌, true, List, [], ◌∷◌, ◌++◌, length, get_or, drop, Some, None, Ok, Option, sym, ap, ◌∙◌, subst, arith, MatchOption}
+use Rattle.std.proofs.Common.{◌≡◌, ℕ, zero, suc, ◌+◌, ◌<◌, ◌≤◌, true, leb, List, [], ◌∷◌, ◌++◌, length, get_or, drop, None, Ok, Err, Result, sym, refl, inl, inr, ap, ◌∙◌, subst, arith, MatchResult}
 use Rattle.std.proofs.lemmas.List.{get_or-append-add, get_or_append_left}
-use Rattle.std.proofs.lemmas.Bool.{and_parts, ltb-true, leb-true}
+use Rattle.std.proofs.lemmas.Bool.{and_parts, and_from, cases_lt, ltb-true, leb-true, lt-ltb, lt-leb, le-leb}
+use Rattle.std.specs.List.{position, position_or_len}
 use Rattle.cycles.specs.Code.{P, touch}
 use Rattle.cycles.specs.Rows.{row, ok, deep, small}
 use Rattle.cycles.specs.declared.node.Node.{Node}
@@ -18,6 +19,21 @@ behind us ws k n e = sym (get_or-append-add us ws k 0 ∙ e)
 -- a step of a touch, by its place in the touch's words
 pub step_at : (b n : ℕ) (ks r : List ℕ) (i : ℕ) → i < length ks → get_or (1 ∷ b ∷ n ∷ (ks ++ r)) (3 + i) 0 ≡ get_or ks i 0
 step_at b n ks r i h = get_or-append-add (1 ∷ b ∷ n ∷ []) (ks ++ r) i 0 ∙ get_or_append_left ks r 0 i h
+
+-- of small numbers each is small, and numbers are small if none is found that is not
+pub small_at : (xs : List ℕ) (i : ℕ) → i < length xs → small xs ≡ true → get_or xs i 0 < 65536
+small_at [] i h s = absurd (omega arith)
+small_at (x ∷ xs) zero h s = ltb-true x 65536 (and_parts _ _ s).0
+small_at (x ∷ xs) (suc i) h s = small_at xs i (omega arith) (and_parts _ _ s).1
+
+small_before : (xs : List ℕ) → length xs ≤ position_or_len (λ x. leb 65536 x) xs → small xs ≡ true
+small_before [] h = refl
+small_before (x ∷ xs) h =
+    elim (cases_lt x 65536) [ inl k ↦ and_from _ _ (lt-ltb x 65536 k) (small_before xs (let e = lt-leb 65536 x k in let g = rw e at h in omega arith)) | inr k ↦ absurd (let e = le-leb 65536 x k in let g = rw e at h in omega arith) ]
+
+pub small_unless : (xs : List ℕ) → position (λ x. leb 65536 x) xs ≡ None → small xs ≡ true
+small_unless xs e =
+    elim (cases_lt (position_or_len (λ x. leb 65536 x) xs) (length xs)) [ inl k ↦ absurd (let f = lt-ltb (position_or_len (λ x. leb 65536 x) xs) (length xs) k in let g = rw f at e in cc) | inr k ↦ small_before xs k ]
 
 module _ (ws : List ℕ) (l d : ℕ) where
   pub work_over : (n : ℕ) → ws ≡ 0 ∷ n ∷ drop 2 ws → 65536 ≤ n → NoneBegins ws l d
@@ -55,22 +71,22 @@ module _ (ws : List ℕ) (l d : ℕ) where
       (omega (arith, leb-true q.0 4096 (and_parts _ _ a.1).0), ltb-true l 8 a.0, omega (arith, ap deep q.2))
 
 -- what is told of a node is told of what it is equal to
-pub judges_as : (l d : ℕ) (node n : Node) (r : Option Fault) → node ≡ n → Judges l d n r → Judges l d node r
+pub judges_as : (l d : ℕ) (node n : Node) (r : Result (Unit {0}) Fault) → node ≡ n → Judges l d n r → Judges l d node r
 judges_as l d node n r e h = subst (λ v. Judges l d v r) (sym e) h
 
 pub begins_as : (ws : List ℕ) {node n : Node} → node ≡ n → Begins ws (Ok node) → Begins ws (Ok n)
 begins_as ws e b = subst (λ v. Begins ws (Ok v)) e b
 
 -- a node that may stand too deep
-by_depth : (l d : ℕ) (node : Node) (r : Option Fault) → (d < 200 → Keeps l d node) → ((ws : List ℕ) → Begins ws (Ok node) → (2 ≤ get_or ws 0 0) × (get_or ws 0 0 ≤ 4) × (200 ≤ d → NoneBegins ws l d) × (0 < length ws)) → MatchOption r (d < 200) (λ f. (200 ≤ d) × (f.place ≡ 0) × (f.rule ≡ Depth)) → Judges l d node r
-by_depth l d node None keeps none h = keeps h
-by_depth l d node (Some f) keeps none h = λ us ws b.
+by_depth : (l d : ℕ) (node : Node) (r : Result (Unit {0}) Fault) → (d < 200 → Keeps l d node) → ((ws : List ℕ) → Begins ws (Ok node) → (2 ≤ get_or ws 0 0) × (get_or ws 0 0 ≤ 4) × (200 ≤ d → NoneBegins ws l d) × (0 < length ws)) → MatchResult r (λ _. d < 200) (λ f. (200 ≤ d) × (f.place ≡ 0) × (f.rule ≡ Depth)) → Judges l d node r
+by_depth l d node (Ok u) keeps none h = keeps h
+by_depth l d node (Err f) keeps none h = λ us ws b.
     let n = none ws b in
     let w : get_or (us ++ ws) (length us + 0) 0 ≡ get_or ws 0 0 = get_or-append-add us ws 0 0 in
     let at : Breaks (us ++ ws) (length us + 0) Depth = (omega arith, omega arith) in
     (subst (λ k. Breaks (us ++ ws) (length us + k) f.rule) (sym h.1) (subst (λ e. Breaks (us ++ ws) (length us + 0) e) (sym h.2) at), n.2 h.0, omega (arith, n.3, h.1))
 
-module _ (l d : ℕ) (r : Option Fault) (h : MatchOption r (d < 200) (λ f. (200 ≤ d) × (f.place ≡ 0) × (f.rule ≡ Depth))) where
+module _ (l d : ℕ) (r : Result (Unit {0}) Fault) (h : MatchResult r (λ _. d < 200) (λ f. (200 ≤ d) × (f.place ≡ 0) × (f.rule ≡ Depth))) where
   pub judge_seq : Judges l d Seq r
   judge_seq = by_depth l d Seq r (λ k. k) (λ ws b. (omega (arith, ap (λ xs. get_or xs 0 0) b), omega (arith, ap (λ xs. get_or xs 0 0) b), seq_too_deep ws l d b, omega (arith, ap length b))) h
 

@@ -1,5 +1,5 @@
 -- What the reader of words tells.
-use Rattle.std.specs.Prelude.{◌≡◌, ℕ, ◌+◌, ◌<◌, ◌≤◌, min, Bool, true, false, List, ◌∷◌, ◌++◌, length, drop, Some, None, Ok, Err, Option, Result, ◌≢◌, slice_index, slice_index_or}
+use Rattle.std.specs.Prelude.{◌≡◌, ℕ, ◌+◌, ◌<◌, ◌≤◌, min, Bool, true, false, List, ◌∷◌, ◌++◌, length, drop, Ok, Err, Result, ◌≢◌, slice_index}
 use Rattle.cycles.specs.declared.node.Node.{Node}
 use Rattle.cycles.specs.declared.node.Node.TheVariants.{Work, Touch, Seq, Either, Loop, Skip}
 use Rattle.cycles.specs.declared.fault.Rule.{Rule}
@@ -9,7 +9,7 @@ use Rattle.cycles.specs.declared.geometry.Policy.{Policy}
 use Rattle.cycles.specs.declared.geometry.Policy.TheVariants.{Lru, Fifo}
 use Rattle.cycles.specs.declared.geometry.Geometry.{Geometry}
 use Rattle.cycles.specs.declared.reader.Extent.{Extent}
-use Rattle.cycles.specs.Code.{P, Cache}
+use Rattle.cycles.specs.Code.{pick, P, Cache}
 use Rattle.cycles.specs.Rows.{row, row_c, small, ok, ok_c, deep, amount, Reads}
 use Rattle.cycles.specs.Says.{OneReading}
 
@@ -89,9 +89,9 @@ Keeps loops depth (Loop n) = (n ≤ 4096) × (loops < 8) × (depth < 200)
 Keeps loops depth Skip = Unit {0}
 
 -- whether a node keeps the limits; where not, the fault's place is counted from the node's first word, whatever words us stand before it
-abbrev pub Judges : ℕ → ℕ → Node → Option Fault → Type 0
-Judges loops depth node None = Keeps loops depth node
-Judges loops depth node (Some f) = (us ws : List ℕ) → Begins ws (Ok node) → Breaks (us ++ ws) (length us + f.place) f.rule × NoneBegins ws loops depth × (f.place < length ws)
+abbrev pub Judges : ℕ → ℕ → Node → Result (Unit {0}) Fault → Type 0
+Judges loops depth node (Ok u) = Keeps loops depth node
+Judges loops depth node (Err f) = (us ws : List ℕ) → Begins ws (Ok node) → Breaks (us ++ ws) (length us + f.place) f.rule × NoneBegins ws loops depth × (f.place < length ws)
 
 -- the node at a place, within the limits
 abbrev pub Stands : List ℕ → ℕ → ℕ → ℕ → Result Node Fault → Type 0
@@ -118,23 +118,13 @@ abbrev pub is_lru : Policy → Bool
 is_lru Lru = true
 is_lru Fifo = false
 
+-- the policy that a word names, or the rule that it breaks
+abbrev pub Names : ℕ → Result Policy Rule → Type 0
+Names n (Ok p) = n ≡ pick (is_lru p) 1 0
+Names n (Err e) = (e ≡ PolicyWord n) × (1 < n)
+
 abbrev pub cache : Geometry → Cache
 cache g = record { sets = g.sets; ways = g.ways; line = g.line; hit = g.hit; miss = g.miss; used = is_lru g.policy }
-
--- the words of a cache keep the limits
-pub record KeepsCache (ws : List ℕ) : Type 0 where
-  pub six : 6 ≤ length ws
-  pub sets : (1 ≤ slice_index ws 0) × (slice_index ws 0 ≤ 64)
-  pub ways : (1 ≤ slice_index ws 1) × (slice_index ws 1 ≤ 8)
-  pub line : (1 ≤ slice_index ws 2) × (slice_index ws 2 ≤ 64)
-  pub hit : slice_index_or ws 3 0 ≤ slice_index ws 4
-  pub miss : slice_index_or ws 4 0 < 65536
-  pub policy : slice_index_or ws 5 0 ≤ 1
-
--- whether the words begin with a cache within the limits
-abbrev pub JudgesCache : List ℕ → Option Fault → Type 0
-JudgesCache ws None = KeepsCache ws
-JudgesCache ws (Some f) = Breaks ws f.place f.rule × (KeepsCache ws → ⊥)
 
 -- the cache whose six words stand first
 abbrev pub Shapes : List ℕ → Result Geometry Fault → Type 0

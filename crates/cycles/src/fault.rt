@@ -1,7 +1,9 @@
+ghost use Rattle.std.specs.Prelude.{◌≡◌, ◌+◌, ◌<◌};
+
 use std::fmt;
 
 // A rule that words break, with the numbers that its message tells.
-#[derive(Clone, Copy)]
+#[derive(Clone, Copy, PartialEq, Eq, Debug)]
 pub enum Rule {
     // there are no words
     Empty,
@@ -66,9 +68,28 @@ impl fmt::Display for Rule {
     }
 }
 
+impl Rule {
+    // The fault of the word at a place that breaks the rule.
+    pub(crate) fn at(self, place: usize) -> Fault
+        ensures { result ≡ record { place = place; rule = self } }
+    {
+        Fault { place, rule: self }
+    }
+}
+
 // Which word is wrong, counted from 0, and the rule that it breaks.
-#[derive(Clone, Copy)]
+#[derive(Clone, Copy, PartialEq, Eq, Debug)]
 pub struct Fault {
     pub place: usize,
     pub rule: Rule,
+}
+
+impl Fault {
+    // The same fault, its place counted from so many words before.
+    pub(crate) fn behind(self, words: usize) -> Fault
+        requires { words + self.place < 18446744073709551616 }
+        ensures { result ≡ record { place = words + self.place; rule = self.rule } }
+    {
+        self.rule.at(words + self.place)
+    }
 }

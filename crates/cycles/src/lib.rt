@@ -3,11 +3,12 @@
 pub mod fault;
 pub mod geometry;
 mod load;
+mod nest;
 pub mod node;
 pub mod reader;
 
 // The longest and the shortest time of a program, and how many choices are told of each; or why not.
-#[derive(Clone, Copy)]
+#[derive(Clone, Copy, PartialEq, Eq, Debug)]
 pub enum Timed {
     Times(u64, u64, usize, usize),
     Crowded,

@@ -17,7 +17,7 @@ impl Load {
         ensures { (result.amount ≡ amount) × (result.place ≡ place) }
     {
         Load {
-            amount: amount as u64,
+            amount: u64::from(amount),
             place,
         }
     }
@@ -62,7 +62,7 @@ impl Load {
             self.place
         };
         Load {
-            amount: TOO_MUCH.min(rounds as u64 * self.amount),
+            amount: TOO_MUCH.min(u64::from(rounds) * self.amount),
             place,
         }
     }

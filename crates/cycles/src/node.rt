@@ -2,9 +2,10 @@ ghost use Rattle.std.specs.Prelude.{◌≡◌};
 ghost use Rattle.cycles.specs.Reading.{Begins, parts_of, quiet_of, size_of};
 
 use crate::fault::Rule;
+use std::fmt;
 
 // What a program begins with: one node, with what it holds itself.
-#[derive(Clone, Copy)]
+#[derive(Clone, Copy, PartialEq, Eq, Debug)]
 pub enum Node<'a> {
     Work(u32),
     Touch { base: u32, steps: &'a [u32] },
@@ -20,12 +21,9 @@ impl Node<'_> {
         ensures { result ≡ size_of self.entry }
     {
         match self {
-            Node::Work(_) => 2,
+            Node::Work(_) | Node::Loop(_) => 2,
             Node::Touch { steps, .. } => 3 + steps.len(),
-            Node::Seq => 1,
-            Node::Either => 1,
-            Node::Loop(_) => 2,
-            Node::Skip => 1,
+            Node::Seq | Node::Either | Node::Skip => 1,
         }
     }
 
@@ -34,10 +32,9 @@ impl Node<'_> {
         ensures { result ≡ parts_of self.entry }
     {
         match self {
-            Node::Seq => 2,
-            Node::Either => 2,
+            Node::Seq | Node::Either => 2,
             Node::Loop(_) => 1,
-            _ => 0,
+            Node::Work(_) | Node::Touch { .. } | Node::Skip => 0,
         }
     }
 
@@ -45,11 +42,30 @@ impl Node<'_> {
     pub fn is_quiet(self) -> bool
         ensures { result ≡ quiet_of self.entry }
     {
-        match self {
-            Node::Seq => true,
-            Node::Loop(_) => true,
-            Node::Skip => true,
-            _ => false,
+        matches!(self, Node::Seq | Node::Loop(_) | Node::Skip)
+    }
+}
+
+fn write_steps<W: fmt::Write>(f: &mut fmt::Formatter<W>, steps: &[u32]) -> fmt::Result {
+    for step in steps {
+        write!(f, " step {step}")?;
+    }
+    Ok(())
+}
+
+// The node alone, without the programs that it holds.
+impl fmt::Display for Node<'_> {
+    fn fmt<W: fmt::Write>(&self, f: &mut fmt::Formatter<W>) -> fmt::Result {
+        match *self {
+            Node::Work(cycles) => write!(f, "work {cycles}"),
+            Node::Touch { base, steps } => {
+                write!(f, "touch {base}")?;
+                write_steps(f, steps)
+            }
+            Node::Seq => f.write_str("seq"),
+            Node::Either => f.write_str("either"),
+            Node::Loop(rounds) => write!(f, "loop {rounds}"),
+            Node::Skip => f.write_str("skip"),
         }
     }
 }

@@ -1,33 +1,14 @@
-use Rattle.std.proofs.Common.{◌≡◌, ℕ, ◌+◌, ◌≤◌, List, ◌++◌, length, take, drop, Ok, Err, sym, subst, add-zero, arith, length-drop, length-take}
-use Rattle.std.proofs.lemmas.List.{take-append-drop}
-use Rattle.cycles.specs.declared.fault.Rule.{Rule}
-use Rattle.cycles.specs.Reading.{Breaks}
-use Rattle.cycles.proofs.Fits.{begins_rest}
+use Rattle.std.proofs.Common.{rules}
+use Rattle.std.proofs.lemmas.Result.{err_from_is_err_and, MatchResult-weaker}
+use Rattle.cycles.proofs.Fits.{none_stands, none_keeps}
 use Rattle.cycles.proofs.reader.node_at.Goals as goal
 
--- a rule that is broken behind the words before a place is broken there
-at_place : (ws : List ℕ) (at k : ℕ) (e : Rule) → at ≤ length ws → Breaks (take at ws ++ drop at ws) (length (take at ws) + k) e → Breaks ws (at + k) e
-at_place ws at k e h b =
-    let l : length (take at ws) ≡ at = simp length-take (omega arith) in
-    subst (λ n. Breaks ws (n + k) e) l (subst (λ xs. Breaks xs (length (take at ws) + k) e) (take-append-drop at ws) b)
+pub returns-in_err-node : goal.returns-in_err-node
+returns-in_err-node c =
+    let p = err_from_is_err_and c.from_residual.result c.from_residual.ensures.1 in
+    rw (p.1, p.2) (none_stands _ _ _ _ c.first_node.result _ c.requires c.first_node.ensures (MatchResult-weaker c.first_node.result c.in_err-node.ensures.cases (λ x h. cc) (λ e h. search rules)))
 
-pub overflow_add-place : goal.overflow_add-place
-overflow_add-place c =
-    let b = begins_rest c.args.words.now c.args.at (Ok c.in-Ok.node) c.in-Ok.ensures in
-    let j = c.in-Some.ensures (take c.args.at c.args.words.now) (drop c.args.at c.args.words.now) b in
-    omega (arith, j.2, length-drop c.args.at c.args.words.now)
-
-pub returns-in-Err : goal.returns-in-Err
-returns-in-Err c =
-    let b = begins_rest c.args.words.now c.args.at (Err c.in-Err.rule) c.in-Err.ensures in
-    let at = subst (λ k. Breaks (take c.args.at c.args.words.now ++ drop c.args.at c.args.words.now) k c.in-Err.rule) (sym (add-zero _)) (b.0 (take c.args.at c.args.words.now)) in
-    (subst (λ k. Breaks c.args.words.now k c.in-Err.rule) (add-zero _) (at_place c.args.words.now c.args.at 0 _ c.requires at), λ p r e o s. b.1 p r e)
-
-pub returns-in-None : goal.returns-in-None
-returns-in-None c = (begins_rest c.args.words.now c.args.at (Ok c.in-Ok.node) c.in-Ok.ensures, c.in-None.ensures)
-
-pub returns-in-Some : goal.returns-in-Some
-returns-in-Some c =
-    let b = begins_rest c.args.words.now c.args.at (Ok c.in-Ok.node) c.in-Ok.ensures in
-    let j = c.in-Some.ensures (take c.args.at c.args.words.now) (drop c.args.at c.args.words.now) b in
-    (at_place c.args.words.now c.args.at _ _ c.requires j.0, j.1)
+pub returns-in_err-map_err : goal.returns-in_err-map_err
+returns-in_err-map_err c =
+    let p = err_from_is_err_and c.from_residual-in_err-map_err.result c.from_residual-in_err-map_err.ensures.1 in
+    rw (p.1, p.2) (none_keeps _ _ _ _ _ c.check.result _ c.requires (search rules) c.check.ensures (MatchResult-weaker c.check.result c.in_err-map_err.ensures.cases (λ x h. cc) (λ e h. search rules)))

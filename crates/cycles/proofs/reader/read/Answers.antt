@@ -18,7 +18,7 @@ returns-in_err-program c =
 pub returns-then-program-words : goal.returns-then-program-words
 returns-then-program-words c =
     let f = c.in_ok-program.ensures in
-    record { says = (c.if-program-words.true, λ d p r. let h = all_of_it c.args.words.now _ _ f.0 d p r in omega arith); one = one_reading }
+    rw c.at.ensures (record { says = (c.if-program-words.true, λ d p r. let h = all_of_it c.args.words.now _ _ f.0 d p r in omega arith); one = one_reading })
 
 pub returns : goal.returns
 returns c =
