@@ -19,10 +19,6 @@ returns-in-0-2 c = work_cut _ (omega (arith, tests, eqb-true)) (omega (arith, te
 pub returns-in-4-2 : goal.returns-in-4-2
 returns-in-4-2 c = loop_cut _ (omega (arith, tests, eqb-true)) (omega (arith, tests, ltb-false))
 
-pub returns-else-count-rest : goal.returns-else-count-rest
-returns-else-count-rest c =
-    touched c.args.words.now (get_or c.args.words.now 2 0) (omega arith) refl (omega (arith, tests, ltb-false, eqb-true, eqb-false, length-take (length c.args.words.now - 3) (drop 3 c.args.words.now), length-drop 3 c.args.words.now)) _ (rw (sub-zero, take_rest))
-
 pub returns-in-len1-up : goal.returns-in-len1-up
 returns-in-len1-up c =
     unknown _ (elim c.in-len1-up-1.branch [ then-words-lt2+in_default-1 w ↦ omega (arith, tests, ltb-false, eqb-true, eqb-false) | else-words-lt2+then-words-lt3+in_default-1 w ↦ omega (arith, tests, ltb-false, eqb-true, eqb-false) | else-words-lt2+else-words-lt3+in_default-1 w ↦ omega (arith, tests, ltb-false, eqb-true, eqb-false) ])

@@ -28,14 +28,6 @@ returns-in-Skip t c =
     let a = c.loop-end.invariant.0 in
     (a.spans _ 0 _ (spans_skip _ _ _ _ a.within c.args.nest.shallow s.0) (omega arith), omega arith)
 
-pub scan-requires : goal.scan-requires
-scan-requires t c =
-    let s = stood c.args.words.now c.loop-end.at c.args.nest.loops c.args.nest.depth c.in-Seq.is c.in_ok-node_at.ensures in
-    let l = length-drop c.loop-end.at c.args.words.now in
-    let e = ap length s.0 in
-    let m = s.1 in
-    (omega arith, omega arith)
-
 pub returns-in_err-first-in-Seq : goal.returns-in_err-first-in-Seq
 returns-in_err-first-in-Seq t c =
     let s = stood c.args.words.now c.loop-end.at c.args.nest.loops c.args.nest.depth c.in-Seq.is c.in_ok-node_at.ensures in
@@ -48,14 +40,6 @@ loop-end-preserved t c =
     let s = stood c.args.words.now c.loop-end.at c.args.nest.loops c.args.nest.depth c.in-Seq.is c.in_ok-node_at.ensures in
     let f = rw (c.deeper.ensures.0, c.deeper.ensures.1) at c.in_ok-first-in-Seq.ensures in
     (further _ _ _ _ c.loop-end.invariant.0 _ _ _ (seq_along _ _ _ _ _ _ s.0 f.0) c.then-load-in-Seq.ensures.amount, omega (arith, f.0.long), omega (arith, f.0.long, f.1))
-
-pub scan-requires-in-Either : goal.scan-requires-in-Either
-scan-requires-in-Either t c =
-    let s = stood c.args.words.now c.loop-end.at c.args.nest.loops c.args.nest.depth c.in-Either.is c.in_ok-node_at.ensures in
-    let l = length-drop c.loop-end.at c.args.words.now in
-    let e = ap length s.0 in
-    let m = s.1 in
-    (omega arith, omega arith)
 
 pub returns-in_err-first-in-Either : goal.returns-in_err-first-in-Either
 returns-in_err-first-in-Either t c =
