@@ -41,9 +41,6 @@ pub spans_to : (ws : List ℕ) (l d at end m v n : ℕ) → Spans ws l d at end 
 spans_to ws l d at end m v n f e g = subst (λ k. Spans ws l d at k n) (sym e) (subst (λ k. Spans ws l d at end k) (sym g) f)
 
 module _ (ws : List ℕ) (l d at : ℕ) where
-  pub along_start : at ≤ length ws → Along ws l d at at 0
-  along_start h = record { within = h; spans = λ end m n f e. spans_to ws l d at end m end n f refl (omega (arith, f.done)); none = λ h. h }
-
   pub further : {start much : ℕ} → Along ws l d start at much → (at' more n : ℕ) → Along ws l d at at' more → n ≡ min 4294967297 (much + more) → Along ws l d start at' n
   further {start} {much} a at' more n b e =
       record {

@@ -1,6 +1,6 @@
 -- What words begin with, by their places: enough words for a node, or a rule that is broken.
-use Rattle.std.proofs.Common.{◌≡◌, ℕ, ◌+◌, ◌<◌, ◌≤◌, ◌⊎◌, List, [], ◌∷◌, ◌++◌, length, get_or, take, drop, Err, sym, refl, ap, ◌∙◌, inl, inr, add-zero, arith, length-append, length-take}
-use Rattle.std.proofs.lemmas.List.{drop-drop, take-append-drop, get_or-append-add}
+use Rattle.std.proofs.Common.{◌≡◌, ℕ, ◌+◌, ◌<◌, ◌≤◌, ◌⊎◌, List, ◌++◌, length, get_or, Err, sym, refl, ap, ◌∙◌, inl, inr, add-zero, arith, length-append}
+use Rattle.std.proofs.lemmas.List.{get_or-append-add}
 use Rattle.cycles.specs.declared.fault.Rule.TheVariants.{NodeMissing, WorkCut, TouchCut, LoopCut, UnknownNode}
 use Rattle.cycles.specs.Code.{P, work, touch, seq, either, times, skip}
 use Rattle.cycles.specs.Rows.{row}
@@ -17,16 +17,6 @@ enough ws (seq p q) r e = rw e (inr (inr (inr ((λ h. omega arith), omega arith,
 enough ws (either p q) r e = rw e (inr (inr (inr ((λ h. omega arith), omega arith, omega arith, omega arith))))
 enough ws (times n p) r e = rw e (inr (inr (inl (refl, omega arith))))
 enough ws skip r e = rw e (inr (inr (inr ((λ h. omega arith), omega arith, omega arith, omega arith))))
-
--- the steps of a touch, and what stands behind them
-pub touched : (ws : List ℕ) (n : ℕ) → get_or ws 0 0 ≡ 1 → get_or ws 2 0 ≡ n → 3 + n ≤ length ws → (ks : List ℕ) → ks ≡ take n (drop 3 ws) → ws ≡ 1 ∷ get_or ws 1 0 ∷ length ks ∷ (ks ++ drop (3 + length ks) ws)
-touched (a ∷ b ∷ m ∷ ws) n e f l ks k =
-    let h : length ks ≡ n = ap length k ∙ simp length-take (omega arith) in
-    let d : take n ws ++ drop n ws ≡ ws = take-append-drop n ws in
-    rw (h, k, ← drop-drop n 3 (a ∷ b ∷ m ∷ ws)) (cc)
-touched [] n e f l ks k = absurd (omega arith)
-touched (a ∷ []) n e f l ks k = absurd (omega arith)
-touched (a ∷ b ∷ []) n e f l ks k = absurd (omega arith)
 
 -- the first word behind others
 seam : (us ws : List ℕ) → get_or (us ++ ws) (length us) 0 ≡ get_or ws 0 0
