@@ -1,8 +1,8 @@
 -- Nodes that break a limit: where, and that no program begins so.
-use Rattle.std.proofs.Common.{◌≡◌, ℕ, zero, suc, ◌+◌, ◌<◌, ◌≤◌, true, leb, List, [], ◌∷◌, ◌++◌, length, get_or, drop, None, Ok, Err, Result, sym, refl, inl, inr, ap, ◌∙◌, subst, arith, MatchResult}
+use Rattle.std.proofs.Common.{◌≡◌, ℕ, zero, suc, ◌+◌, ◌<◌, ◌≤◌, true, false, leb, List, [], ◌∷◌, ◌++◌, length, get_or, drop, None, Ok, Err, Result, sym, refl, ap, ◌∙◌, subst, arith, MatchResult}
 use Rattle.std.proofs.lemmas.List.{get_or-append-add, get_or_append_left}
-use Rattle.std.proofs.lemmas.Bool.{and_parts, and_from, cases_lt, ltb-true, leb-true, lt-ltb, lt-leb, le-leb}
-use Rattle.std.specs.List.{position, position_or_len}
+use Rattle.std.proofs.lemmas.Bool.{and_parts, and_from, ltb-true, leb-true, leb-false, lt-ltb}
+use Rattle.std.specs.List.{position}
 use Rattle.cycles.specs.Code.{P, touch}
 use Rattle.cycles.specs.Rows.{row, ok, deep, small}
 use Rattle.cycles.specs.declared.node.Node.{Node}
@@ -10,6 +10,7 @@ use Rattle.cycles.specs.declared.node.Node.TheVariants.{Seq, Either, Loop}
 use Rattle.cycles.specs.declared.fault.Fault.{Fault}
 use Rattle.cycles.specs.declared.fault.Rule.TheVariants.{Depth}
 use Rattle.cycles.specs.Reading.{NoneBegins, Begins, Breaks, Keeps, Judges}
+use Rattle.cycles.proofs.Positions.{none_found}
 use Rattle.cycles.proofs.Unique.{of, same_parts}
 
 -- a word of ws, told behind the words us
@@ -26,14 +27,12 @@ small_at [] i h s = absurd (omega arith)
 small_at (x ∷ xs) zero h s = ltb-true x 65536 (and_parts _ _ s).0
 small_at (x ∷ xs) (suc i) h s = small_at xs i (omega arith) (and_parts _ _ s).1
 
-small_before : (xs : List ℕ) → length xs ≤ position_or_len (λ x. leb 65536 x) xs → small xs ≡ true
-small_before [] h = refl
-small_before (x ∷ xs) h =
-    elim (cases_lt x 65536) [ inl k ↦ and_from _ _ (lt-ltb x 65536 k) (small_before xs (let e = lt-leb 65536 x k in let g = rw e at h in omega arith)) | inr k ↦ absurd (let e = le-leb 65536 x k in let g = rw e at h in omega arith) ]
+small_from : (xs : List ℕ) → ((k : ℕ) → k < length xs → leb 65536 (get_or xs k 0) ≡ false) → small xs ≡ true
+small_from [] f = refl
+small_from (x ∷ xs) f = and_from _ _ (lt-ltb x 65536 (leb-false 65536 x (f 0 (omega arith)))) (small_from xs (λ k h. f (suc k) (omega arith)))
 
 pub small_unless : (xs : List ℕ) → position (λ x. leb 65536 x) xs ≡ None → small xs ≡ true
-small_unless xs e =
-    elim (cases_lt (position_or_len (λ x. leb 65536 x) xs) (length xs)) [ inl k ↦ absurd (let f = lt-ltb (position_or_len (λ x. leb 65536 x) xs) (length xs) k in let g = rw f at e in cc) | inr k ↦ small_before xs k ]
+small_unless xs e = small_from xs (none_found (λ x. leb 65536 x) xs e)
 
 module _ (ws : List ℕ) (l d : ℕ) where
   pub work_over : (n : ℕ) → ws ≡ 0 ∷ n ∷ drop 2 ws → 65536 ≤ n → NoneBegins ws l d

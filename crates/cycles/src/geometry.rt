@@ -1,4 +1,4 @@
-ghost use Rattle.std.specs.Prelude.{◌<◌, ◌≤◌};
+ghost use Rattle.std.specs.Prelude.{◌≡◌, ◌*◌, ◌<◌, ◌≤◌};
 
 use crate::fault::{Fault, Rule};
 use std::fmt;
@@ -65,6 +65,13 @@ pub struct Geometry {
 
 impl Geometry {
     ghost use Rattle.cycles.specs.Reading.{Shapes};
+
+    // How many lines fit: the ways of all sets.
+    pub fn cells(self) -> usize
+        ensures { result ≡ self.sets * self.ways }
+    {
+        self.sets as usize * self.ways as usize
+    }
 
     // The cache whose six words stand first.
     pub(crate) fn read(words: &[u32]) -> Result<Geometry, Fault>

@@ -1,15 +1,18 @@
 -- The address of a touch, step by step, and that it fits.
-use Rattle.std.proofs.Common.{◌≡◌, ℕ, zero, suc, ◌+◌, ◌-◌, ◌*◌, ◌<◌, ◌≤◌, true, ltb, List, [], ◌∷◌, length, get_or, take, drop, set, refl, ap, ◌∙◌, mul-le-mul, arith}
-use Rattle.std.proofs.lemmas.List.{drop_more, drop_all, get_or-reverse, get_or-take, length-take-le, length-reverse}
+use Rattle.std.proofs.Common.{◌≡◌, ℕ, zero, suc, ◌+◌, ◌*◌, ◌<◌, ◌≤◌, true, ltb, List, [], ◌∷◌, length, get_or, take, drop, refl, mul-le-mul, arith}
+use Rattle.std.proofs.lemmas.List.{drop_more, drop_all, get_or-take, length-take-le}
 use Rattle.std.proofs.lemmas.Bool.{and_parts, and_from, ltb-true, lt-ltb}
 use Rattle.cycles.specs.Code.{place}
 use Rattle.cycles.specs.Rows.{small}
 use Rattle.machine.specs.Around.{around, below}
 
-pub below_set : (m : ℕ) (xs : List ℕ) (i x : ℕ) → below m xs ≡ true → x < m → below m (set xs i x) ≡ true
-below_set m [] i x h k = refl
-below_set m (y ∷ ys) zero x h k = and_from _ _ (lt-ltb x m k) (and_parts (ltb y m) (below m ys) h).1
-below_set m (y ∷ ys) (suc i) x h k = let a = and_parts (ltb y m) (below m ys) h in and_from _ _ a.0 (below_set m ys i x a.1 k)
+below_take : (m n : ℕ) (xs : List ℕ) → below m xs ≡ true → below m (take n xs) ≡ true
+below_take m zero xs h = refl
+below_take m (suc n) [] h = refl
+below_take m (suc n) (x ∷ xs) h = let a = and_parts (ltb x m) (below m xs) h in and_from _ _ a.0 (below_take m n xs a.1)
+
+pub below_front : (m n x : ℕ) (xs : List ℕ) → x < m → below m xs ≡ true → below m (take n (x ∷ xs)) ≡ true
+below_front m n x xs k h = below_take m n (x ∷ xs) (and_from _ _ (lt-ltb x m k) h)
 
 pub below_at : (m : ℕ) (xs : List ℕ) (i : ℕ) → 0 < m → below m xs ≡ true → get_or xs i 0 < m
 below_at m [] i z h = z
@@ -21,19 +24,12 @@ small_at [] i h = omega arith
 small_at (x ∷ xs) zero h = ltb-true x 65536 (and_parts (ltb x 65536) (small xs) h).0
 small_at (x ∷ xs) (suc i) h = small_at xs i (and_parts (ltb x 65536) (small xs) h).1
 
--- the round of the loop that is i further out than the innermost
-round_at : (at : List ℕ) (d i : ℕ) → d ≤ length at → i < d → get_or (around at d) i 0 ≡ get_or at (d - 1 - i) 0
-round_at at d i h k =
-    let l : length (take d at) ≡ d = length-take-le d at h in
-    let e = get_or-reverse (take d at) i 0 (omega arith) in
-    e ∙ ap (λ n. get_or (take d at) (n - 1 - i) 0) l ∙ get_or-take d at (d - 1 - i) 0 (omega arith)
-
-pub place_more : (w i d : ℕ) (ks at : List ℕ) → d ≤ length at → i < length ks → i < d → place w (drop i ks) (drop i (around at d)) ≡ place (w + get_or ks i 0 * get_or at (d - 1 - i) 0) (drop (i + 1) ks) (drop (i + 1) (around at d))
+pub place_more : (w i d : ℕ) (ks at : List ℕ) → d ≤ length at → i < length ks → i < d → place w (drop i ks) (drop i (around at d)) ≡ place (w + get_or ks i 0 * get_or at i 0) (drop (i + 1) ks) (drop (i + 1) (around at d))
 place_more w i d ks at h k m =
     let a = drop_more ks i 0 k in
-    let l : i < length (around at d) = omega (arith, length-reverse (take d at), length-take-le d at h) in
+    let l : i < length (around at d) = omega (arith, length-take-le d at h) in
     let b = drop_more (around at d) i 0 l in
-    rw (a, b, round_at at d i h m)
+    rw (a, b, get_or-take d at i 0 m)
 
 pub place_all : (w i : ℕ) (ks rs : List ℕ) → length ks ≤ i → place w (drop i ks) (drop i rs) ≡ w
 place_all w i ks rs h = rw (drop_all i ks h)

@@ -1,11 +1,13 @@
 -- The cells of a cache, set by set.
-use Rattle.std.proofs.Common.{◌≡◌, ℕ, zero, suc, ◌+◌, ◌-◌, ◌*◌, ◌<◌, ◌≤◌, Bool, true, false, List, [], ◌∷◌, ◌++◌, length, take, drop, replicate, Option, sym, refl, ap, ◌∙◌, mul-le-mul_right, suc-mul, suc-add, zero-add, zero-mul, arith}
+use Rattle.std.proofs.Common.{◌≡◌, ℕ, zero, suc, ◌+◌, ◌-◌, ◌*◌, ◌<◌, ◌≤◌, Bool, true, false, List, [], ◌∷◌, ◌++◌, length, take, drop, replicate, inl, inr, sym, refl, ap, ◌∙◌, mul-le-mul_right, suc-mul, suc-add, zero-add, zero-mul, arith}
 use mathlib.Core.Option.{some}
 use borrow.Rule.Slice.PartMut.{put_mid}
 use Rattle.std.proofs.lemmas.List.{drop-drop, drop_at, take_at, length-take-le, take_all, length-drop, take-append-le, drop-append-le, take-append-drop, drop-replicate, append_assoc}
+use Rattle.std.proofs.lemmas.Bool.{cases_Bool}
 use Rattle.std.proofs.lemmas.Slice.{drop-put_mid}
-use Rattle.cycles.specs.Code.{pick, opt, nth, put, without, among, St, Cache, empty, after, there, line_of, set_of, lines_at}
-use Rattle.machine.specs.Cells.{lines_of, sets_of, state_of, touched_set, goes, out_of}
+use Rattle.cycles.specs.Code.{pick, opt, nth, put, without, among, St, Cache, empty, after, cost, line_of, set_of, lines_at}
+use Rattle.machine.specs.Cells.{lines_of, sets_of, state_of, touched_set, is_hit, outcome_in, outcome_of}
+use Rattle.machine.specs.declared.cache.Outcome.{Outcome}
 use Rattle.machine.proofs.WayLaws.{lines_clear}
 
 pub length_sets : (n w : ℕ) (xs : List ℕ) → length (sets_of n w xs) ≡ n
@@ -109,6 +111,9 @@ put_pick s k ls new came true true e = refl
 put_pick s k ls new came true false e = e
 put_pick s k ls new came false used e = refl
 
+hit_of : (w l : ℕ) (ls : List ℕ) → is_hit (outcome_in w l ls) ≡ among l ls
+hit_of w l ls = elim (cases_Bool (among l ls)) [ inl e ↦ rw e | inr e ↦ rw e ]
+
 -- a touch of an address, whose set's ways are the m words in the middle of the cells xs
 module _ (c : Cache) (xs : List ℕ) (a m : ℕ) (in_sets : set_of c a < c.sets) (fit : c.sets * c.ways ≤ length xs) (wide : m ≡ c.ways) where
   abbrev from : ℕ
@@ -129,11 +134,11 @@ module _ (c : Cache) (xs : List ℕ) (a m : ℕ) (in_sets : set_of c a < c.sets)
       let d = length-drop from xs in
       length-take-le m (drop from xs) (omega arith) ∙ wide
 
-  pub hit_at : (hit : Bool) → hit ≡ among (line_of c a) (lines_of part) → hit ≡ there c (state_of c xs) a
-  hit_at hit e = e ∙ ap (among (line_of c a)) (sym at_part)
+  pub outcome_at : (o : Outcome) → o ≡ outcome_in (length part) (line_of c a) (lines_of part) → o ≡ outcome_of c (state_of c xs) a
+  outcome_at o e = e ∙ ap (λ w. outcome_in w (line_of c a) (lines_of part)) long_part ∙ ap (outcome_in c.ways (line_of c a)) (sym at_part)
 
-  pub goes_at : (out : Option ℕ) → out ≡ out_of (length part) (line_of c a) (lines_of part) → out ≡ goes c (state_of c xs) a
-  goes_at out e = e ∙ ap (λ w. out_of w (line_of c a) (lines_of part)) long_part ∙ ap (out_of c.ways (line_of c a)) (sym at_part)
+  pub hit_at : (o : Outcome) → o ≡ outcome_in (length part) (line_of c a) (lines_of part) → pick (is_hit o) c.hit c.miss ≡ cost c (state_of c xs) a
+  hit_at o e = ap (λ u. pick (is_hit u) c.hit c.miss) (outcome_at o e) ∙ ap (λ b. pick b c.hit c.miss) (hit_of c.ways (line_of c a) (lines_at c (state_of c xs) a))
 
   module _ (ys : List ℕ) (long : length ys ≡ length part) where
     pub after_at : lines_of ys ≡ touched_set (length part) c.used (line_of c a) (lines_of part) → state_of c (put_mid from m xs ys) ≡ after c (state_of c xs) a

@@ -65,10 +65,10 @@ tidy_out (zero ∷ ws) l (suc i) h e t o = absurd (omega arith)
 tidy_out (suc k ∷ ws) l (suc i) h e t o = tidy_out ws l i (omega arith) e (omega arith) o
 
 -- it is brought to the front of the ways up to it
-pub tidy_renewed : (ws : List ℕ) (l i : ℕ) → i < length ws → get_or ws i 0 ≡ suc l → Passed ws l i → (us : List ℕ) → us ≡ take (length (take (i + 1 - 0) ws)) ((l + 1) ∷ take (i + 1 - 0) ws) → Tidy ws → Tidy (us ++ drop (i + 1 - 0) ws)
+pub tidy_renewed : (ws : List ℕ) (l i : ℕ) → i < length ws → get_or ws i 0 ≡ suc l → Passed ws l i → (us : List ℕ) → us ≡ take (length (take (i + 1) ws)) ((l + 1) ∷ take (i + 1) ws) → Tidy ws → Tidy (us ++ drop (i + 1) ws)
 unfolding Tidy
 tidy_renewed ws l i h e p us f t =
-    let k : i + 1 - 0 ≡ suc i = omega arith in
+    let k : i + 1 ≡ suc i = add-one i in
     let b : length (take (suc i) ws) ≡ suc i = length-take-le (suc i) ws (omega arith) in
     let q : take i (take (suc i) ws) ≡ take i ws = take-take i (suc i) ws (omega arith) in
     let g : us ≡ suc l ∷ take i ws = (rw (k, add-one) at f) ∙ rw (b, q) in

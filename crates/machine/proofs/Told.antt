@@ -1,5 +1,5 @@
 -- What a whole call tells of a play.
-use Rattle.std.proofs.Common.{◌≡◌, ℕ, ◌<◌, ◌≤◌, Bool, List, [], length, drop, Some, None, sym, ap, ◌∙◌, arith}
+use Rattle.std.proofs.Common.{◌≡◌, ℕ, ◌<◌, ◌≤◌, Bool, List, [], length, drop, Some, None, Ok, Err, Result, sym, ap, ◌∙◌, arith}
 use mathlib.Core.Option.{some}
 use Rattle.std.proofs.lemmas.List.{drop_all}
 use Rattle.cycles.specs.Code.{P, Cache, empty}
@@ -9,7 +9,8 @@ use Rattle.cycles.proofs.Whole.{parted}
 use Rattle.machine.specs.declared.observer.Event.{Event}
 use Rattle.machine.specs.declared.player.Place.{Place}
 use Rattle.machine.specs.declared.player.Played.{Played}
-use Rattle.machine.specs.declared.player.Played.TheVariants.{Whole, LeftOver, RanOut}
+use Rattle.machine.specs.declared.player.PlayError.{PlayError}
+use Rattle.machine.specs.declared.player.PlayError.TheVariants.{LeftOver, RanOut}
 use Rattle.machine.specs.Cells.{state_of}
 use Rattle.machine.specs.Trace.{trace}
 use Rattle.machine.specs.Playing.{Fit, Came, PlaySays, PlayPost, begin, here}
@@ -18,11 +19,15 @@ use Rattle.machine.proofs.Stays.{stays_sound}
 use Rattle.machine.proofs.Sums.{trace_sum}
 use Rattle.machine.proofs.Wide.{wider_holds, wider_never_slower, empty_is_worst}
 
-abbrev start : Place
+abbrev pub start : Place
 start = record { at = 6; time = 0; used = 0 }
 
+-- what is told of a play that came to a place
+abbrev pub played : Place → Played
+played t = record { cycles = t.time; choices = t.used }
+
 -- the theorems come with every answer
-pub promised : (ws : List ℕ) (bs : List Bool) (w : ℕ) (K L : List Event → Type 0) (r : Played) → PlaySays ws bs w K L r → PlayPost ws bs w K L r
+pub promised : (ws : List ℕ) (bs : List Bool) (w : ℕ) (K L : List Event → Type 0) (r : Result Played PlayError) → PlaySays ws bs w K L r → PlayPost ws bs w K L r
 promised ws bs w K L r s = record { says = s; sound = stays_sound; holds = wider_holds; quicker = wider_never_slower; worst = empty_is_worst }
 
 -- the program behind the cache's words is ready
@@ -40,15 +45,15 @@ module _ (ws : List ℕ) (c : Cache) (p : P) (bs : List Bool) (w : ℕ) (xs ys :
   from_empty : here c bs start xs ≡ begin c bs
   from_empty = ap (λ s. record { time = 0; st = s; choices = bs }) e
 
-  pub told_whole : (t : Place) → Came c [] bs p start xs ys K L (Some t) → length bs ≤ t.used → PlayPost ws bs w K L (Whole t.time t.used)
+  pub told_whole : (t : Place) → Came c [] bs p start xs ys K L (Some t) → length bs ≤ t.used → PlayPost ws bs w K L (Ok (played t))
   told_whole t m u =
-      let played : play c p [] (begin c bs) ≡ some (record { time = t.time; st = state_of c ys; choices = [] }) = ap (play c p []) (sym from_empty) ∙ m.1 ∙ ap (λ ds. some (record { time = t.time; st = state_of c ys; choices = ds })) (drop_all t.used bs u) in
-      promised ws bs w K L (Whole t.time t.used) (c, p, r, (state_of c ys, played), omega (arith, m.3), tells_as K L (ap (trace c p []) from_empty) m.2, omega (arith, trace_sum c p [] _ _ played))
+      let came : play c p [] (begin c bs) ≡ some (record { time = t.time; st = state_of c ys; choices = [] }) = ap (play c p []) (sym from_empty) ∙ m.1 ∙ ap (λ ds. some (record { time = t.time; st = state_of c ys; choices = ds })) (drop_all t.used bs u) in
+      promised ws bs w K L (Ok (played t)) (c, p, r, (state_of c ys, came), omega (arith, m.3), tells_as K L (ap (trace c p []) from_empty) m.2, omega (arith, trace_sum c p [] _ _ came))
 
-  pub told_left_over : (t : Place) → Came c [] bs p start xs ys K L (Some t) → t.used < length bs → PlayPost ws bs w K L (LeftOver t.time t.used)
+  pub told_left_over : (t : Place) → Came c [] bs p start xs ys K L (Some t) → t.used < length bs → PlayPost ws bs w K L (Err (LeftOver (played t)))
   told_left_over t m u =
-      let played : play c p [] (begin c bs) ≡ some (record { time = t.time; st = state_of c ys; choices = drop t.used bs }) = ap (play c p []) (sym from_empty) ∙ m.1 in
-      promised ws bs w K L (LeftOver t.time t.used) (c, p, r, (state_of c ys, played), u, tells_as K L (ap (trace c p []) from_empty) m.2, omega (arith, trace_sum c p [] _ _ played))
+      let came : play c p [] (begin c bs) ≡ some (record { time = t.time; st = state_of c ys; choices = drop t.used bs }) = ap (play c p []) (sym from_empty) ∙ m.1 in
+      promised ws bs w K L (Err (LeftOver (played t))) (c, p, r, (state_of c ys, came), u, tells_as K L (ap (trace c p []) from_empty) m.2, omega (arith, trace_sum c p [] _ _ came))
 
-  pub told_ran_out : Came c [] bs p start xs ys K L None → PlayPost ws bs w K L RanOut
-  told_ran_out m = promised ws bs w K L RanOut (c, p, r, ap (play c p []) (sym from_empty) ∙ m.0, tells_as K L (ap (trace c p []) from_empty) m.1)
+  pub told_ran_out : Came c [] bs p start xs ys K L None → PlayPost ws bs w K L (Err RanOut)
+  told_ran_out m = promised ws bs w K L (Err RanOut) (c, p, r, ap (play c p []) (sym from_empty) ∙ m.0, tells_as K L (ap (trace c p []) from_empty) m.1)

@@ -1,9 +1,10 @@
 -- The ways of one set, and the lines that they hold.
-use Rattle.std.proofs.Common.{◌≡◌, ℕ, zero, suc, ◌+◌, ◌-◌, ◌<◌, ◌≤◌, Bool, true, false, eqb, List, [], ◌∷◌, ◌++◌, length, get_or, take, drop, set, replicate, Some, None, Option, sym, refl, ap, ◌∙◌, add-one, sub-one, arith}
+use Rattle.std.proofs.Common.{◌≡◌, ℕ, zero, suc, ◌+◌, ◌-◌, ◌<◌, ◌≤◌, Bool, true, false, eqb, ◌||◌, List, [], ◌∷◌, ◌++◌, length, get_or, take, drop, set, replicate, Some, None, sym, refl, subst, ap, ◌∙◌, add-one, sub-one, arith}
 use Rattle.std.proofs.lemmas.List.{drop_more, drop_all, take_more, take_all, take-take, length-take-le, length_push}
-use Rattle.std.proofs.lemmas.Bool.{or_parts, or_from, or_left, or_right, eq-eqb, ne_eqb, lt-ltb, le-ltb}
+use Rattle.std.proofs.lemmas.Bool.{or_parts, or_from, or_left, or_right, eq-eqb, ne_eqb, eqb-false, lt-ltb, le-ltb}
 use Rattle.cycles.specs.Code.{among, without}
-use Rattle.machine.specs.Cells.{lines_of, touched_set, last_from, last_of, out_of}
+use Rattle.machine.specs.Cells.{lines_of, touched_set, last_from, last_of, outcome_in}
+use Rattle.machine.specs.declared.cache.Outcome.TheVariants.{Hit, Miss}
 use Rattle.machine.specs.Standings.{Passed}
 
 -- the last cell of all goes to the front, and is written over
@@ -109,10 +110,10 @@ module _ (ws : List ℕ) (l i : ℕ) (h : i < length ws) (e : get_or ws i 0 ≡ 
   there_held = held_there ws l i h e p.taken
 
   -- it is brought to the front of the ways up to it
-  pub renewed : (us : List ℕ) → us ≡ take (length (take (i + 1 - 0) ws)) ((l + 1) ∷ take (i + 1 - 0) ws) → lines_of (us ++ drop (i + 1 - 0) ws) ≡ l ∷ without l (lines_of ws)
+  pub renewed : (us : List ℕ) → us ≡ take (length (take (i + 1) ws)) ((l + 1) ∷ take (i + 1) ws) → lines_of (us ++ drop (i + 1) ws) ≡ l ∷ without l (lines_of ws)
   unfolding lines_of
   renewed us f =
-      let k : i + 1 - 0 ≡ suc i = omega arith in
+      let k : i + 1 ≡ suc i = add-one i in
       let b : length (take (suc i) ws) ≡ suc i = length-take-le (suc i) ws (omega arith) in
       let t : take i (take (suc i) ws) ≡ take i ws = take-take i (suc i) ws (omega arith) in
       let g : us ≡ suc l ∷ take i ws = (rw (k, add-one) at f) ∙ rw (b, t) in
@@ -157,11 +158,23 @@ module _ (w l : ℕ) (ls : List ℕ) where
   pub missed : (used : Bool) → among l ls ≡ false → take w (l ∷ ls) ≡ touched_set w used l ls
   missed used a = rw a
 
-  pub none_hit : among l ls ≡ true → None ≡ out_of w l ls
-  none_hit a = rw a
+  pub outcome_hit : among l ls ≡ true → Hit ≡ outcome_in w l ls
+  outcome_hit a = rw a
 
-  pub none_free : among l ls ≡ false → length ls < w → None ≡ out_of w l ls
-  none_free a h = let b = lt-ltb (length ls) w h in rw (a, b)
+  pub outcome_free : among l ls ≡ false → length ls < w → Miss None ≡ outcome_in w l ls
+  outcome_free a h = let b = lt-ltb (length ls) w h in rw (a, b)
 
-  pub last_goes : (o : Option ℕ) → among l ls ≡ false → w ≤ length ls → last_of ls ≡ o → o ≡ out_of w l ls
-  last_goes o a h e = let b = le-ltb (length ls) w h in rw (a, b) (sym e)
+  pub outcome_full : (k : ℕ) → among l ls ≡ false → w ≤ length ls → last_of ls ≡ Some k → Miss (Some k) ≡ outcome_in w l ls
+  outcome_full k a h e = let b = le-ltb (length ls) w h in rw (a, b, e)
+
+-- ways before the i-th that are taken by other lines
+pub passed_to : (ws : List ℕ) (l i : ℕ) → i ≤ length ws → ((k : ℕ) → k < i → ((get_or ws k 0 ≡ l + 1 → ⊥) × (get_or ws k 0 ≡ 0 → ⊥))) → Passed ws l i
+passed_to ws l zero h f = passed_none ws l
+passed_to ws l (suc i) h f =
+    let p = passed_to ws l i (omega arith) (λ k m. f k (omega arith)) in
+    subst (λ n. Passed ws l n) (add-one i) (passed_more ws l i (omega arith) p (f i (omega arith)).0 (f i (omega arith)).1)
+
+-- no way before the i-th holds the cell of a line, or nothing
+pub passed_found : (ws : List ℕ) (l i : ℕ) → i ≤ length ws → ((k : ℕ) → k < i → (eqb (get_or ws k 0) (l + 1) || eqb (get_or ws k 0) 0) ≡ false) → Passed ws l i
+passed_found ws l i h f =
+    passed_to ws l i h (λ k m. let p = or_parts (eqb (get_or ws k 0) (l + 1)) (eqb (get_or ws k 0) 0) (f k m) in (eqb-false _ _ p.0, eqb-false _ _ p.1))

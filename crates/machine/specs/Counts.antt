@@ -1,16 +1,17 @@
 -- Counts of events.
 use Rattle.std.specs.Prelude.{ℕ, ◌+◌, List, [], ◌∷◌}
 use Rattle.cycles.specs.Code.{pick}
+use Rattle.machine.specs.Cells.{is_hit}
 use Rattle.machine.specs.declared.observer.Event.{Event}
 use Rattle.machine.specs.declared.observer.Event.TheVariants.{Work, Touch}
 
 abbrev pub hits_of : Event → ℕ
 hits_of (Work t n) = 0
-hits_of (Touch a) = pick a.hit 1 0
+hits_of (Touch a) = pick (is_hit a.touched.outcome) 1 0
 
 abbrev pub misses_of : Event → ℕ
 misses_of (Work t n) = 0
-misses_of (Touch a) = pick a.hit 0 1
+misses_of (Touch a) = pick (is_hit a.touched.outcome) 0 1
 
 abbrev pub work_of : Event → ℕ
 work_of (Work t n) = n

@@ -1,12 +1,14 @@
 -- What is told of a program that stands in words and is played.
-use Rattle.std.specs.Prelude.{◌≡◌, ℕ, ◌+◌, ◌*◌, ◌<◌, ◌≤◌, Bool, true, false, ◌&&◌, List, [], ◌∷◌, ◌++◌, length, drop, Some, None, Option as StdOption}
+use Rattle.std.specs.Prelude.{◌≡◌, ℕ, ◌+◌, ◌*◌, ◌<◌, ◌≤◌, Bool, true, false, ◌&&◌, List, [], ◌∷◌, ◌++◌, length, drop, Some, None, Ok, Err, Result, Option as StdOption}
 use Rattle.std.proofs.Math.Option.{some, none}
 use Rattle.cycles.specs.Code.{P, work, touch, seq, either, times, skip, Cache, St, empty}
 use Rattle.cycles.specs.Plays.{At, play, Play}
+use Rattle.cycles.specs.Reading.{Breaks}
 use Rattle.cycles.specs.Rows.{row, ok, amount, Reads}
 use Rattle.cycles.specs.Says.{StaysSound, WiderHolds, WiderNeverSlower, EmptyIsWorst}
 use Rattle.machine.specs.declared.player.Played.{Played}
-use Rattle.machine.specs.declared.player.Played.TheVariants.{Whole, LeftOver, RanOut, NoProgram, Few}
+use Rattle.machine.specs.declared.player.PlayError.{PlayError}
+use Rattle.machine.specs.declared.player.PlayError.TheVariants.{NoProgram, FewCells, RanOut, LeftOver}
 use Rattle.machine.specs.declared.observer.Event.{Event}
 use Rattle.machine.specs.declared.player.Place.{Place}
 use Rattle.machine.specs.Cells.{state_of}
@@ -72,15 +74,15 @@ abbrev pub begin : Cache → List Bool → At
 begin c bs = record { time = 0; st = empty c; choices = bs }
 
 -- what is told of a play of the words ws by the choices bs, with w words lent, and K and L what the observer may have been told before and behind: the play is the definitions' play, and what is told is its trace
-abbrev pub PlaySays : List ℕ → List Bool → ℕ → (List Event → Type 0) → (List Event → Type 0) → Played → Type 0
-PlaySays ws bs w K L (Whole n k) = (c : Cache) × (p : P) × Reads ws c p × ((t : St) × Play c p (empty c) bs n t) × (k ≡ length bs) × Tells K L (trace c p [] (begin c bs)) × (sum_cycles (trace c p [] (begin c bs)) ≡ n)
-PlaySays ws bs w K L (LeftOver n k) = (c : Cache) × (p : P) × Reads ws c p × ((t : St) × (play c p [] (begin c bs) ≡ some (record { time = n; st = t; choices = drop k bs }))) × (k < length bs) × Tells K L (trace c p [] (begin c bs)) × (sum_cycles (trace c p [] (begin c bs)) ≡ n)
-PlaySays ws bs w K L RanOut = (c : Cache) × (p : P) × Reads ws c p × (play c p [] (begin c bs) ≡ none) × Tells K L (trace c p [] (begin c bs))
-PlaySays ws bs w K L NoProgram = ((c : Cache) (p : P) → Reads ws c p → ⊥) × Tells K L []
-PlaySays ws bs w K L Few = (c : Cache) × (p : P) × Reads ws c p × (w < c.sets * c.ways) × Tells K L []
+abbrev pub PlaySays : List ℕ → List Bool → ℕ → (List Event → Type 0) → (List Event → Type 0) → Result Played PlayError → Type 0
+PlaySays ws bs w K L (Ok d) = (c : Cache) × (p : P) × Reads ws c p × ((t : St) × Play c p (empty c) bs d.cycles t) × (d.choices ≡ length bs) × Tells K L (trace c p [] (begin c bs)) × (sum_cycles (trace c p [] (begin c bs)) ≡ d.cycles)
+PlaySays ws bs w K L (Err (LeftOver d)) = (c : Cache) × (p : P) × Reads ws c p × ((t : St) × (play c p [] (begin c bs) ≡ some (record { time = d.cycles; st = t; choices = drop d.choices bs }))) × (d.choices < length bs) × Tells K L (trace c p [] (begin c bs)) × (sum_cycles (trace c p [] (begin c bs)) ≡ d.cycles)
+PlaySays ws bs w K L (Err RanOut) = (c : Cache) × (p : P) × Reads ws c p × (play c p [] (begin c bs) ≡ none) × Tells K L (trace c p [] (begin c bs))
+PlaySays ws bs w K L (Err (NoProgram f)) = Breaks ws f.place f.rule × ((c : Cache) (p : P) → Reads ws c p → ⊥) × Tells K L []
+PlaySays ws bs w K L (Err FewCells) = (c : Cache) × (p : P) × Reads ws c p × (w < c.sets * c.ways) × Tells K L []
 
 -- what the call promises, with the theorems about caches
-pub record PlayPost (ws : List ℕ) (bs : List Bool) (w : ℕ) (K L : List Event → Type 0) (r : Played) : Type 0 where
+pub record PlayPost (ws : List ℕ) (bs : List Bool) (w : ℕ) (K L : List Event → Type 0) (r : Result Played PlayError) : Type 0 where
   pub says : PlaySays ws bs w K L r
   pub sound : StaysSound
   pub holds : WiderHolds

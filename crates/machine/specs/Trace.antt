@@ -2,15 +2,15 @@
 use Rattle.std.specs.Prelude.{ℕ, zero, suc, ◌+◌, Bool, List, [], ◌∷◌, ◌++◌}
 use Rattle.std.proofs.Math.Option as core
 use Rattle.std.proofs.Math.Option.{some, none}
-use Rattle.cycles.specs.Code.{pick, P, work, touch, seq, either, times, skip, Cache, line_of, set_of, there, cost, place}
+use Rattle.cycles.specs.Code.{pick, P, work, touch, seq, either, times, skip, Cache, line_of, set_of, cost, place}
 use Rattle.cycles.specs.Plays.{At, left, play}
 use Rattle.machine.specs.declared.observer.Event.{Event}
 use Rattle.machine.specs.declared.observer.Event.TheVariants.{Work, Touch}
-use Rattle.machine.specs.Cells.{goes}
+use Rattle.machine.specs.Cells.{outcome_of}
 
 -- one touch of an address
 abbrev pub touch_event : Cache → ℕ → At → Event
-touch_event c w a = Touch (record { start = a.time; address = w; line = line_of c w; set = set_of c w; hit = there c a.st w; cycles = cost c a.st w; evicted = goes c a.st w })
+touch_event c w a = Touch (record { start = a.time; address = w; touched = record { line = line_of c w; set = set_of c w; cycles = cost c a.st w; outcome = outcome_of c a.st w } })
 
 -- what comes behind, if there is a behind
 abbrev pub then_trace : core.Option At → (At → List Event) → List Event
@@ -36,7 +36,7 @@ trace c skip rs a = []
 
 abbrev pub cycles_of : Event → ℕ
 cycles_of (Work t n) = n
-cycles_of (Touch t) = t.cycles
+cycles_of (Touch a) = a.touched.cycles
 
 abbrev pub sum_cycles : List Event → ℕ
 sum_cycles [] = 0

@@ -1,23 +1,30 @@
-ghost use Rattle.std.specs.Prelude.{◌≡◌, ◌*◌, ◌<◌, ◌≤◌, ◌∷◌, length, take, drop, replicate};
-ghost use Rattle.cycles.specs.Code.{Cache, after, among, cost, empty, line_of, pick, set_of, there};
+ghost use Rattle.std.specs.Prelude.{◌≡◌, ◌*◌, ◌<◌, ◌≤◌, ◌∷◌, ◌||◌, ◌==◌, length, take, drop, replicate, position};
+ghost use Rattle.cycles.specs.Code.{Cache, after, cost, empty, line_of, pick, set_of};
 ghost use Rattle.cycles.specs.Reading.{cache as cache_of, is_lru};
-ghost use Rattle.machine.specs.Cells.{Tidy, TidyCells, goes, lines_of, out_of, state_of, touched_set};
+ghost use Rattle.machine.specs.Cells.{Tidy, TidyCells, is_hit, lines_of, outcome_in, outcome_of, state_of, touched_set};
 ghost use Rattle.machine.specs.Standings.{Stood};
 
 use cycles::geometry::{Geometry, Policy};
 
+// What a touch did to its set.
+#[derive(Clone, Copy, PartialEq, Eq, Debug)]
+pub enum Outcome {
+    Hit,
+    // the line came in, and evicted another if every way was taken
+    Miss { evicted: Option<u32> },
+}
+
 // What a touch did.
-#[derive(Clone, Copy)]
+#[derive(Clone, Copy, PartialEq, Eq, Debug)]
 pub struct Touched {
-    pub hit: bool,
     pub line: u32,
     pub set: u32,
     pub cycles: u32,
-    pub evicted: Option<u32>,
+    pub outcome: Outcome,
 }
 
 // Where a line stands in its set.
-#[derive(Clone, Copy)]
+#[derive(Clone, Copy, PartialEq, Eq, Debug)]
 enum Standing {
     // in this way
     Held(usize),
@@ -27,11 +34,11 @@ enum Standing {
     Full,
 }
 
-// What a touch did to its set.
-#[derive(Clone, Copy)]
-struct Outcome {
-    hit: bool,
-    evicted: Option<u32>,
+// The first way that holds the cell, or nothing.
+fn way_with(ways: &[u32], cell: u32) -> Option<usize>
+    ensures { result ≡ position (λ w. w == cell || w == 0) ways.now }
+{
+    ways.iter().position(|way| *way == cell || *way == 0)
 }
 
 // Where the line stands; the ways behind an empty one hold nothing.
@@ -40,15 +47,11 @@ fn standing_of(ways: &[u32], line: u32) -> Standing
     ensures { Stood ways.now line result }
 {
     let cell = line + 1;
-    for (place, way) in ways.iter().enumerate() {
-        if *way == cell {
-            return Standing::Held(place);
-        }
-        if *way == 0 {
-            return Standing::Free;
-        }
+    match way_with(ways, cell) {
+        None => Standing::Full,
+        Some(place) if ways[place] == cell => Standing::Held(place),
+        Some(_) => Standing::Free,
     }
-    Standing::Full
 }
 
 // Writes a cell in front of the others, and the last goes.
@@ -65,28 +68,28 @@ fn touch_set(ways: &mut [u32], line: u32, policy: Policy) -> Outcome
     requires some { 0 < length ways.old }
     requires fits { line < 4294967295 }
     ensures after { lines_of ways.new ≡ touched_set (length ways.old) (is_lru policy) line (lines_of ways.old) }
-    ensures hit { result.hit ≡ among line (lines_of ways.old) }
-    ensures evicted { result.evicted ≡ out_of (length ways.old) line (lines_of ways.old) }
+    ensures outcome { result ≡ outcome_in (length ways.old) line (lines_of ways.old) }
     ensures tidy { Tidy ways.old → Tidy ways.new }
 {
-    let (hit, evicted) = match standing_of(ways, line) {
+    match standing_of(ways, line) {
         Standing::Held(place) => {
             if let Policy::Lru = policy {
-                push_front(&mut ways[0..place + 1], line + 1);
+                push_front(&mut ways[..=place], line + 1);
             }
-            (true, None)
+            Outcome::Hit
         }
         Standing::Free => {
             push_front(ways, line + 1);
-            (false, None)
+            Outcome::Miss { evicted: None }
         }
         Standing::Full => {
             let last = ways[ways.len() - 1] - 1;
             push_front(ways, line + 1);
-            (false, Some(last))
+            Outcome::Miss {
+                evicted: Some(last),
+            }
         }
-    };
-    Outcome { hit, evicted }
+    }
 }
 
 // Touches an address in the cells of a cache.
@@ -94,11 +97,10 @@ pub fn touch(cells: &mut [u32], cache: Geometry, address: u32) -> Touched
     requires address { address < 4294967295 }
     requires cells { cache.sets * cache.ways ≤ length cells.old }
     ensures after { state_of (cache_of cache) cells.new ≡ after (cache_of cache) (state_of (cache_of cache) cells.old) address }
-    ensures hit { result.hit ≡ there (cache_of cache) (state_of (cache_of cache) cells.old) address }
+    ensures outcome { result.outcome ≡ outcome_of (cache_of cache) (state_of (cache_of cache) cells.old) address }
     ensures cycles { result.cycles ≡ cost (cache_of cache) (state_of (cache_of cache) cells.old) address }
     ensures line { result.line ≡ line_of (cache_of cache) address }
     ensures set { result.set ≡ set_of (cache_of cache) address }
-    ensures evicted { result.evicted ≡ goes (cache_of cache) (state_of (cache_of cache) cells.old) address }
     ensures tidy { TidyCells (cache_of cache) cells.old → TidyCells (cache_of cache) cells.new }
     ensures behind { drop (cache.sets * cache.ways) cells.new ≡ drop (cache.sets * cache.ways) cells.old }
 {
@@ -108,11 +110,10 @@ pub fn touch(cells: &mut [u32], cache: Geometry, address: u32) -> Touched
     let from = set as usize * ways;
     let outcome = touch_set(&mut cells[from..from + ways], line, cache.policy);
     Touched {
-        hit: outcome.hit,
         line,
         set,
-        cycles: cycles(cache, outcome.hit),
-        evicted: outcome.evicted,
+        cycles: cycles(cache, outcome),
+        outcome,
     }
 }
 
@@ -125,9 +126,11 @@ pub fn clear(cells: &mut [u32])
     cells.fill(0);
 }
 
-// The cycles of a hit or of a miss.
-fn cycles(cache: Geometry, hit: bool) -> u32
-    ensures { result ≡ pick hit (cache_of cache).hit (cache_of cache).miss }
+fn cycles(cache: Geometry, outcome: Outcome) -> u32
+    ensures { result ≡ pick (is_hit outcome) (cache_of cache).hit (cache_of cache).miss }
 {
-    if hit { cache.hit } else { cache.miss }
+    match outcome {
+        Outcome::Hit => cache.hit,
+        Outcome::Miss { .. } => cache.miss,
+    }
 }

@@ -3,20 +3,18 @@ ghost use Rattle.machine.specs.declared.observer.Event.{Event};
 ghost use Rattle.machine.specs.declared.observer.Event.TheVariants.{Work, Touch};
 ghost use Rattle.machine.specs.Telling.{Tells};
 
+use crate::cache::Touched;
+
 // One touch of memory: the cycle at which it begins, what is touched, and what that does.
-#[derive(Clone, Copy)]
+#[derive(Clone, Copy, PartialEq, Eq, Debug)]
 pub struct Access {
     pub start: u64,
     pub address: u32,
-    pub line: u32,
-    pub set: u32,
-    pub hit: bool,
-    pub cycles: u32,
-    pub evicted: Option<u32>,
+    pub touched: Touched,
 }
 
 // What a play does: work from a cycle on, or a touch.
-#[derive(Clone, Copy)]
+#[derive(Clone, Copy, PartialEq, Eq, Debug)]
 pub enum Event {
     Work(u64, u32),
     Touch(Access),

@@ -2,18 +2,21 @@ ghost use Rattle.std.specs.Prelude.{◌≡◌, ◌+◌, ◌*◌, ◌<◌, ◌≤
 ghost use Rattle.cycles.specs.declared.node.Node.TheVariants.{Either, Loop};
 ghost use Rattle.cycles.specs.Reading.{Begins, cache as cache_of};
 ghost use Rattle.machine.specs.Around.{around};
+ghost use Rattle.machine.specs.declared.player.PlayError.TheVariants.{NoProgram};
 ghost use Rattle.machine.specs.Playing.{Goes, Observed, PlayPost, Ready};
 
 use crate::cache::{clear, touch};
 use crate::observer::{Access, Observer};
 use crate::rounds::Rounds;
 use crate::survey::{look_over, node_at};
+use cycles::fault::Fault;
 use cycles::geometry::Geometry;
 use cycles::node::Node;
 use cycles::reader::read;
+use std::fmt;
 
 // Where a play is: the word that is next, the cycles so far, and the choices used.
-#[derive(Clone, Copy)]
+#[derive(Clone, Copy, PartialEq, Eq, Debug)]
 pub struct Place {
     pub at: usize,
     pub time: u64,
@@ -21,6 +24,13 @@ pub struct Place {
 }
 
 impl Place {
+    // At the first word behind the cache's six.
+    const START: Place = Place {
+        at: 6,
+        time: 0,
+        used: 0,
+    };
+
     // So many words and cycles further.
     fn past(self, words: usize, cycles: u32) -> Place
         requires at { self.at + words < 18446744073709551616 }
@@ -29,8 +39,8 @@ impl Place {
     {
         Place {
             at: self.at + words,
-            time: self.time + cycles as u64,
-            used: self.used,
+            time: self.time + u64::from(cycles),
+            ..self
         }
     }
 
@@ -38,26 +48,52 @@ impl Place {
     fn to(self, at: usize) -> Place
         ensures { result ≡ record { at = at; time = self.time; used = self.used } }
     {
-        Place {
-            at,
-            time: self.time,
-            used: self.used,
-        }
+        Place { at, ..self }
     }
 }
 
-// How a play came out.
-#[derive(Clone, Copy)]
-pub enum Played {
-    // all choices were used: the cycles, and how many choices
-    Whole(u64, usize),
-    // the program ended before its choices: the cycles, and how many choices were used
-    LeftOver(u64, usize),
+// How far a play came: its cycles, and how many choices it used.
+#[derive(Clone, Copy, PartialEq, Eq, Debug)]
+pub struct Played {
+    pub cycles: u64,
+    pub choices: usize,
+}
+
+// Why there is no whole play.
+#[derive(Clone, Copy, PartialEq, Eq, Debug)]
+pub enum PlayError {
+    NoProgram(Fault),
+    // fewer words were lent than the cache has ways
+    FewCells,
     // the choices ended before the program
     RanOut,
-    NoProgram,
-    // fewer words were lent than the cache has ways
-    Few,
+    // the program ended before its choices
+    LeftOver(Played),
+}
+
+impl From<Fault> for PlayError {
+    ghost from_gives = { λ f e. e ≡ NoProgram f };
+
+    fn from(fault: Fault) -> PlayError {
+        PlayError::NoProgram(fault)
+    }
+}
+
+impl fmt::Display for PlayError {
+    fn fmt<W: fmt::Write>(&self, f: &mut fmt::Formatter<W>) -> fmt::Result {
+        match *self {
+            PlayError::NoProgram(fault) => write!(
+                f,
+                "word {} counted from 0: {}",
+                fault.place, fault.rule
+            ),
+            PlayError::FewCells => f.write_str("fewer words than the cache has ways"),
+            PlayError::RanOut => f.write_str(
+                "too few choices: all are used, and an either is come to",
+            ),
+            PlayError::LeftOver(played) => write!(f, "choices left over: {} used", played.choices),
+        }
+    }
 }
 
 // What a play is of: words that are a cache and a program, and choices.
@@ -81,17 +117,12 @@ fn observe_touch<O: Observer>(
     ensures { Observed (cache_of cache) address start cells.old cells.new (O.told observer.old) (O.told observer.new) result }
 {
     let touched = touch(cells, cache, address);
-    let cycles = touched.cycles;
     observer.touch(Access {
         start,
         address,
-        line: touched.line,
-        set: touched.set,
-        hit: touched.hit,
-        cycles,
-        evicted: touched.evicted,
+        touched,
     });
-    cycles
+    touched.cycles
 }
 
 // Plays the program that stands at a place; the second of two is gone on to in the loop. None where the choices run out.
@@ -200,14 +231,12 @@ pub fn play<'a, O: Observer>(
     choices: &'a [bool],
     cells: &mut [u32],
     observer: &mut O,
-) -> Played
+) -> Result<Played, PlayError>
     ensures { PlayPost words.now choices.now (length cells.old) (O.told observer.old) (O.told observer.new) result }
 {
-    let Ok(cache) = read(words) else {
-        return Played::NoProgram;
-    };
-    if cells.len() < cache.sets as usize * cache.ways as usize {
-        return Played::Few;
+    let cache = read(words)?;
+    if cells.len() < cache.cells() {
+        return Err(PlayError::FewCells);
     }
     clear(cells);
     let game = Game {
@@ -215,16 +244,13 @@ pub fn play<'a, O: Observer>(
         choices,
         cache,
     };
-    let start = Place {
-        at: 6,
-        time: 0,
-        used: 0,
+    let end = go(game, Place::START, Rounds::none(), cells, observer).ok_or(PlayError::RanOut)?;
+    let played = Played {
+        cycles: end.time,
+        choices: end.used,
     };
-    let Some(end) = go(game, start, Rounds::none(), cells, observer) else {
-        return Played::RanOut;
-    };
-    if end.used < choices.len() {
-        return Played::LeftOver(end.time, end.used);
+    if played.choices < choices.len() {
+        return Err(PlayError::LeftOver(played));
     }
-    Played::Whole(end.time, end.used)
+    Ok(played)
 }

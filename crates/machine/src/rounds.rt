@@ -3,8 +3,8 @@ ghost use Rattle.cycles.specs.Code.{place};
 ghost use Rattle.cycles.specs.Rows.{small};
 ghost use Rattle.machine.specs.Around.{around, below};
 
-// The rounds that the loops around are in, the outermost first.
-#[derive(Clone, Copy)]
+// The rounds that the loops around are in, the innermost first.
+#[derive(Clone, Copy, PartialEq, Eq, Debug)]
 pub struct Rounds {
     at: [u32; 8],
     depth: usize,
@@ -30,10 +30,13 @@ impl Rounds {
         ensures around { around result.at result.depth ≡ round ∷ around self.at self.depth }
         ensures deeper { result.depth ≡ self.depth + 1 }
     {
-        let mut inner = self;
-        inner.at[inner.depth] = round;
-        inner.depth += 1;
-        inner
+        let mut at = self.at;
+        at.rotate_right(1);
+        at[0] = round;
+        Rounds {
+            at,
+            depth: self.depth + 1,
+        }
     }
 
     // The address that a touch is of in these rounds.
@@ -45,8 +48,8 @@ impl Rounds {
         ensures bound { result ≤ 2146992135 }
     {
         let mut address = base;
-        for (i, step) in steps.iter().enumerate() {
-            address += *step * self.at[self.depth - 1 - i];
+        for (step, round) in steps.iter().zip(&self.at) {
+            address += step * round;
         }
         address
     }

@@ -9,14 +9,11 @@ pub fn node_at(words: &[u32], at: usize) -> Node<'_>
     requires { Stands words.now at }
     ensures { Begins (drop at words.now) (Ok result) }
 {
-    match first_node(&words[at..]) {
-        Ok(node) => node,
-        Err(_) => unreachable(),
-    }
+    first_node(&words[at..]).unwrap()
 }
 
 // Where a program ends, and whether it does nothing at all: no work, touch or either.
-#[derive(Clone, Copy)]
+#[derive(Clone, Copy, PartialEq, Eq, Debug)]
 pub struct Survey {
     pub end: usize,
     pub quiet: bool,
@@ -33,7 +30,7 @@ pub fn look_over(words: &[u32], start: usize) -> Survey
     while pending > 0 {
         let node = node_at(words, at);
         at += node.size();
-        quiet = quiet & node.is_quiet();
+        quiet &= node.is_quiet();
         pending = pending - 1 + node.parts();
     }
     Survey { end: at, quiet }

@@ -1,10 +1,11 @@
 ghost use Rattle.std.specs.Prelude.{◌≡◌, min};
 ghost use Rattle.machine.specs.Counts.{hits_in, misses_in, work_in};
 
+use crate::cache::Outcome;
 use crate::observer::{Access, Observer};
 
 // Counts what a play does, each count up to the largest u64.
-#[derive(Clone, Copy)]
+#[derive(Clone, Copy, Default, PartialEq, Eq, Debug)]
 pub struct Tally {
     pub hits: u64,
     pub misses: u64,
@@ -16,11 +17,7 @@ impl Tally {
     pub fn new() -> Tally
         ensures { (result.hits ≡ 0) × (result.misses ≡ 0) × (result.work ≡ 0) }
     {
-        Tally {
-            hits: 0,
-            misses: 0,
-            work: 0,
-        }
+        Tally::default()
     }
 }
 
@@ -28,14 +25,13 @@ impl Observer for Tally {
     ghost told = { λ t es. (t.hits ≡ min (hits_in es) 18446744073709551615) × (t.misses ≡ min (misses_in es) 18446744073709551615) × (t.work ≡ min (work_in es) 18446744073709551615) };
 
     fn work(&mut self, _start: u64, cycles: u32) {
-        self.work = self.work.saturating_add(cycles as u64);
+        self.work = self.work.saturating_add(u64::from(cycles));
     }
 
     fn touch(&mut self, access: Access) {
-        if access.hit {
-            self.hits = self.hits.saturating_add(1);
-        } else {
-            self.misses = self.misses.saturating_add(1);
+        match access.touched.outcome {
+            Outcome::Hit => self.hits = self.hits.saturating_add(1),
+            Outcome::Miss { .. } => self.misses = self.misses.saturating_add(1),
         }
     }
 }

@@ -1,7 +1,7 @@
-use Rattle.std.proofs.Common.{◌≡◌, ℕ, ◌+◌, ◌-◌, ◌*◌, ◌%◌, ◌<◌, ◌≤◌, refl, ap, ◌∙◌, mod-lt, arith, rules}
-use Rattle.cycles.specs.Code.{Cache, pick, set_of}
+use Rattle.std.proofs.Common.{◌≡◌, ℕ, ◌+◌, ◌-◌, ◌*◌, ◌%◌, ◌<◌, ◌≤◌, refl, ◌∙◌, mod-lt, arith, rules}
+use Rattle.cycles.specs.Code.{Cache, set_of}
 use Rattle.cycles.specs.Reading.{cache}
-use Rattle.machine.proofs.CellLaws.{within, hit_at, goes_at, after_at, behind_at}
+use Rattle.machine.proofs.CellLaws.{within, outcome_at, hit_at, after_at, behind_at}
 use Rattle.machine.proofs.Tidying.{tidy_touched}
 use Rattle.machine.proofs.cache.touch.Goals as goal
 
@@ -25,14 +25,12 @@ returns c =
     let from : ℕ = set_of g c.args.address * g.ways in
     let w : from + g.ways - from ≡ g.ways = omega arith in
     let o = c.touch_set-outcome.ensures in
-    let hit = hit_at g c.args.cells.now c.args.address (from + g.ways - from) i c.requires.cells w _ o.hit in
     record {
       after = after_at g c.args.cells.now c.args.address (from + g.ways - from) i c.requires.cells w c.touch_set-outcome.new.ways c.touch_set-outcome.auto.ways o.after;
-      hit = hit;
-      cycles = c.cycles.ensures ∙ ap (λ b. pick b g.hit g.miss) hit;
+      outcome = outcome_at g c.args.cells.now c.args.address (from + g.ways - from) i c.requires.cells w _ o.outcome;
+      cycles = c.cycles.ensures ∙ hit_at g c.args.cells.now c.args.address (from + g.ways - from) i c.requires.cells w _ o.outcome;
       line = refl;
       set = refl;
-      evicted = goes_at g c.args.cells.now c.args.address (from + g.ways - from) i c.requires.cells w _ o.evicted;
       tidy = tidy_touched g c.args.cells.now c.args.address (from + g.ways - from) i c.requires.cells w c.touch_set-outcome.new.ways c.touch_set-outcome.auto.ways o.tidy;
       behind = behind_at g c.args.cells.now c.args.address (from + g.ways - from) i c.requires.cells w c.touch_set-outcome.new.ways c.touch_set-outcome.auto.ways;
     }

@@ -1,7 +1,7 @@
-use Rattle.std.proofs.Common.{length, sym, ap, ◌∙◌, arith}
+use Rattle.std.proofs.Common.{length, ap, ◌∙◌, arith}
 use Rattle.cycles.specs.Reading.{is_lru}
 use Rattle.machine.specs.Cells.{lines_of}
-use Rattle.machine.proofs.WayLaws.{there_held, renewed, came_in, last_way, last_taken, hit_lru, hit_fifo, missed, none_hit, none_free, last_goes}
+use Rattle.machine.proofs.WayLaws.{there_held, renewed, came_in, last_way, last_taken, hit_lru, hit_fifo, missed, outcome_hit, outcome_free, outcome_full}
 use Rattle.machine.proofs.Tidying.{tidy_push, tidy_renewed}
 use Rattle.machine.proofs.cache.touch_set.Goals as goal
 
@@ -14,8 +14,7 @@ returns-in-Lru c =
     let t = there_held c.args.ways.now c.args.line c.in-Held.place p.0 p.1 p.2 in
     record {
       after = renewed c.args.ways.now c.args.line c.in-Held.place p.0 p.1 p.2 c.push_front.new.ways c.push_front.ensures ∙ hit_lru (length c.args.ways.now) c.args.line (lines_of c.args.ways.now) (is_lru c.args.policy) t (ap is_lru c.in-Lru.is);
-      hit = sym t;
-      evicted = none_hit (length c.args.ways.now) c.args.line (lines_of c.args.ways.now) t;
+      outcome = outcome_hit (length c.args.ways.now) c.args.line (lines_of c.args.ways.now) t;
       tidy = tidy_renewed c.args.ways.now c.args.line c.in-Held.place p.0 p.1 p.2 c.push_front.new.ways c.push_front.ensures;
     }
 
@@ -25,8 +24,7 @@ returns-in_default c =
     let t = there_held c.args.ways.now c.args.line c.in-Held.place p.0 p.1 p.2 in
     record {
       after = hit_fifo (length c.args.ways.now) c.args.line (lines_of c.args.ways.now) (is_lru c.args.policy) t (ap is_lru c.in_default.is);
-      hit = sym t;
-      evicted = none_hit (length c.args.ways.now) c.args.line (lines_of c.args.ways.now) t;
+      outcome = outcome_hit (length c.args.ways.now) c.args.line (lines_of c.args.ways.now) t;
       tidy = λ t. t;
     }
 
@@ -35,8 +33,7 @@ returns-in-Free c =
     let p = c.in-Free.ensures in
     record {
       after = came_in c.args.ways.now c.push_front-in-Free.new.ways c.args.line c.push_front-in-Free.ensures ∙ missed (length c.args.ways.now) c.args.line (lines_of c.args.ways.now) (is_lru c.args.policy) p.0;
-      hit = sym p.0;
-      evicted = none_free (length c.args.ways.now) c.args.line (lines_of c.args.ways.now) p.0 p.1;
+      outcome = outcome_free (length c.args.ways.now) c.args.line (lines_of c.args.ways.now) p.0 p.1;
       tidy = tidy_push c.args.ways.now c.push_front-in-Free.new.ways c.args.line c.push_front-in-Free.ensures;
     }
 
@@ -45,7 +42,6 @@ returns-in-Full c =
     let p = c.in-Full.ensures in
     record {
       after = came_in c.args.ways.now c.push_front-in-Full.new.ways c.args.line c.push_front-in-Full.ensures ∙ missed (length c.args.ways.now) c.args.line (lines_of c.args.ways.now) (is_lru c.args.policy) p.0;
-      hit = sym p.0;
-      evicted = last_goes (length c.args.ways.now) c.args.line (lines_of c.args.ways.now) _ p.0 (omega (arith, p.1)) (last_way c.args.ways.now c.requires.some p.1);
+      outcome = outcome_full (length c.args.ways.now) c.args.line (lines_of c.args.ways.now) _ p.0 (omega (arith, p.1)) (last_way c.args.ways.now c.requires.some p.1);
       tidy = tidy_push c.args.ways.now c.push_front-in-Full.new.ways c.args.line c.push_front-in-Full.ensures;
     }

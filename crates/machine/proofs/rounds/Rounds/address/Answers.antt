@@ -1,25 +1,37 @@
-use Rattle.std.proofs.Common.{◌-◌, sym, ◌∙◌, arith}
+use Rattle.std.proofs.Common.{length, sym, ◌∙◌, arith}
+use Rattle.std.proofs.lemmas.List.{length_push}
+use Rattle.std.proofs.lemmas.Slice.Zip.{zip_turn, zip_end}
 use Rattle.machine.proofs.Addresses.{below_at, small_at, place_more, place_all, step_bound}
 use Rattle.machine.proofs.rounds.Rounds.address.Goals as goal
 
 pub overflow_mul-address : goal.overflow_mul-address
 overflow_mul-address c =
-    let f = step_bound _ _ (small_at c.args.steps.now c.loop-i.i c.requires.stepped) (below_at 4096 c.args.self.at (c.args.self.depth - 1 - c.loop-i.i) (omega arith) c.args.self.low) in
-    omega arith
+    let z = zip_turn c.args.steps.now c.args.self.at c.loop-step.yielded c.into_iter-step-iterator.result c.loop-step.step-iterator c.next.new.self c.next.result (cc) (cc) c.loop-step.yielded_by (c.in-Some.step, c.in-Some.round) c.in-Some.is c.next.ensures.steps in
+    let f = step_bound _ _ (small_at c.args.steps.now (length c.loop-step.yielded) c.requires.stepped) (below_at 4096 c.args.self.at (length c.loop-step.yielded) (omega arith) c.args.self.low) in
+    let a = z.2 0 in
+    let b = z.3 0 in
+    rw (a, b) (omega arith)
 
 pub overflow_add-address : goal.overflow_add-address
 overflow_add-address c =
-    let f = step_bound _ _ (small_at c.args.steps.now c.loop-i.i c.requires.stepped) (below_at 4096 c.args.self.at (c.args.self.depth - 1 - c.loop-i.i) (omega arith) c.args.self.low) in
-    omega arith
+    let z = zip_turn c.args.steps.now c.args.self.at c.loop-step.yielded c.into_iter-step-iterator.result c.loop-step.step-iterator c.next.new.self c.next.result (cc) (cc) c.loop-step.yielded_by (c.in-Some.step, c.in-Some.round) c.in-Some.is c.next.ensures.steps in
+    let f = step_bound _ _ (small_at c.args.steps.now (length c.loop-step.yielded) c.requires.stepped) (below_at 4096 c.args.self.at (length c.loop-step.yielded) (omega arith) c.args.self.low) in
+    let a = z.2 0 in
+    let b = z.3 0 in
+    rw (a, b) (omega arith)
 
-pub loop-i-preserved : goal.loop-i-preserved
-loop-i-preserved c =
-    let f = step_bound _ _ (small_at c.args.steps.now c.loop-i.i c.requires.stepped) (below_at 4096 c.args.self.at (c.args.self.depth - 1 - c.loop-i.i) (omega arith) c.args.self.low) in
-    (omega arith, sym (place_more c.loop-i.address c.loop-i.i c.args.self.depth c.args.steps.now c.args.self.at (omega arith) c.loop-i-test.true (omega arith)) ∙ c.loop-i.invariant.1)
+pub loop-step-preserved : goal.loop-step-preserved
+loop-step-preserved c =
+    let z = zip_turn c.args.steps.now c.args.self.at c.loop-step.yielded c.into_iter-step-iterator.result c.loop-step.step-iterator c.next.new.self c.next.result (cc) (cc) c.loop-step.yielded_by (c.in-Some.step, c.in-Some.round) c.in-Some.is c.next.ensures.steps in
+    let f = step_bound _ _ (small_at c.args.steps.now (length c.loop-step.yielded) c.requires.stepped) (below_at 4096 c.args.self.at (length c.loop-step.yielded) (omega arith) c.args.self.low) in
+    let a = z.2 0 in
+    let b = z.3 0 in
+    rw (a, b, length_push) (omega arith, sym (place_more c.loop-step.address (length c.loop-step.yielded) c.args.self.depth c.args.steps.now c.args.self.at (omega arith) z.0 (omega arith)) ∙ c.loop-step.invariant.1)
 
 pub returns : goal.returns
 returns c =
+    let e = zip_end c.args.steps.now c.args.self.at c.loop-step.yielded c.into_iter-step-iterator.result c.loop-step.step-iterator c.next.new.self c.next.result (cc) (cc) c.loop-step.yielded_by c.in-None.is c.next.ensures.steps in
     record {
-      value = sym (place_all c.loop-i.address c.loop-i.i c.args.steps.now _ c.loop-i-test.false) ∙ c.loop-i.invariant.1;
+      value = sym (place_all c.loop-step.address (length c.loop-step.yielded) c.args.steps.now _ (omega arith)) ∙ c.loop-step.invariant.1;
       bound = omega arith;
     }

@@ -1,9 +1,9 @@
-use Rattle.std.proofs.Common.{◌≡◌, ◌+◌, ◌*◌, ◌≤◌, drop}
+use Rattle.std.proofs.Common.{◌≡◌, ◌+◌, ◌*◌, ◌≤◌, drop, length}
 use Rattle.cycles.specs.Code.{place}
 use Rattle.machine.specs.Around.{around}
 use Rattle.machine.proofs.rounds.Rounds.address.Given as goal
 
 -- what the steps that are left add makes it the address of all
-abbrev pub invariant-loop-i : goal.invariant-loop-i
-invariant-loop-i l =
-    (l.address ≤ 65535 + l.i * 268365825) × (place l.address (drop l.i l.steps) (drop l.i (around l.self.at l.self.depth)) ≡ place l.base l.steps (around l.self.at l.self.depth))
+abbrev pub invariant-loop-step : goal.invariant-loop-step
+invariant-loop-step l =
+    (l.address ≤ 65535 + length l.yielded * 268365825) × (place l.address (drop (length l.yielded) l.steps) (drop (length l.yielded) (around l.fn.self.at l.fn.self.depth)) ≡ place l.base l.steps (around l.fn.self.at l.fn.self.depth))

@@ -1,14 +1,15 @@
-use Rattle.std.proofs.Common.{[], ◌∷◌, reverse, take, refl, ap, ◌∙◌, arith}
-use Rattle.std.proofs.lemmas.List.{take_more_set, reverse-append}
-use Rattle.machine.proofs.Addresses.{below_set}
+use Rattle.std.proofs.Common.{◌≡◌, ◌+◌, ◌∷◌, length, take, set, refl, ap, ◌∙◌, add-one, arith}
+use Rattle.std.proofs.lemmas.List.{take-take}
+use Rattle.machine.proofs.Addresses.{below_front}
+use Rattle.machine.proofs.WayLaws.{rotated}
 use Rattle.machine.proofs.rounds.Rounds.inside.Goals as goal
 
-pub invariant_of-inner : goal.invariant_of-inner
-invariant_of-inner c = record { deep = omega arith; low = below_set 4096 c.args.self.at c.args.self.depth c.args.round c.args.self.low c.requires.few }
+pub invariant_of-result : goal.invariant_of-result
+invariant_of-result c =
+    let e : set c.rotate_right.new.self 0 c.args.round ≡ take (length c.args.self.at) (c.args.round ∷ c.args.self.at) = ap (λ t. set t 0 c.args.round) c.rotate_right.ensures.after ∙ rotated c.args.self.at c.args.round (omega arith) in
+    record { deep = omega arith; low = rw e (below_front 4096 _ c.args.round c.args.self.at c.requires.few c.args.self.low) }
 
 pub returns : goal.returns
 returns c =
-    record {
-      around = ap reverse (take_more_set c.args.self.at c.args.self.depth c.args.round (omega arith)) ∙ reverse-append (take c.args.self.depth c.args.self.at) (c.args.round ∷ []);
-      deeper = refl;
-    }
+    let e : set c.rotate_right.new.self 0 c.args.round ≡ take (length c.args.self.at) (c.args.round ∷ c.args.self.at) = ap (λ t. set t 0 c.args.round) c.rotate_right.ensures.after ∙ rotated c.args.self.at c.args.round (omega arith) in
+    record { around = rw e (take-take (c.args.self.depth + 1) (length c.args.self.at) (c.args.round ∷ c.args.self.at) (omega arith) ∙ ap (λ n. take n (c.args.round ∷ c.args.self.at)) (add-one c.args.self.depth)); deeper = refl }
