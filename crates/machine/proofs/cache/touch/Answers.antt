@@ -13,11 +13,6 @@ in_sets c a h = mod-lt _ h
 within_any : (n w x : ℕ) → 1 ≤ n → x % n * w + w ≤ n * w
 within_any n w x h = within n w (x % n) (mod-lt x h)
 
-pub slice_bounds-touch_set-end : goal.slice_bounds-touch_set-end
-slice_bounds-touch_set-end c =
-    let h : 1 ≤ c.args.cache.sets = c.args.cache.sets_fit.0 in
-    search (rules, within_any)
-
 pub returns : goal.returns
 returns c =
     let g : Cache = cache c.args.cache in

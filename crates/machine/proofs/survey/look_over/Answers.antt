@@ -20,22 +20,10 @@ loop-pending-preserved c =
     let f = fits (drop c.loop-pending.at c.args.words.now) c.node_at-node.result b in
     (omega (arith, f.0, c.size-at.ensures, c.loop-pending.invariant.0, length-drop c.loop-pending.at c.args.words.now), λ p rest e. pending_as c.args.words.now c.args.start p rest _ _ _ _ _ _ (omega (arith, c.size-at.ensures)) (cc) (omega (arith, c.parts.ensures)) (gone_on c.args.words.now c.args.start c.loop-pending.at c.loop-pending.quiet c.loop-pending.pending p rest c.node_at-node.result b (omega arith) (c.loop-pending.invariant.1 p rest e)))
 
-pub loop-pending-smaller : goal.loop-pending-smaller
-loop-pending-smaller c =
-    let b = c.node_at-node.ensures in
-    let f = fits (drop c.loop-pending.at c.args.words.now) c.node_at-node.result b in
-    omega (arith, f.0, f.1, c.size-at.ensures, c.loop-pending.invariant.0, length-drop c.loop-pending.at c.args.words.now)
-
 pub overflow_add-pending : goal.overflow_add-pending
 overflow_add-pending c =
     let f = few_pending _ _ _ _ _ _ _ (c.loop-pending.invariant.1 c.requires.p c.requires.rest c.requires.is) in
     omega (arith, f, parts_few c.node_at-node.result, c.parts.ensures)
-
-pub overflow_add-at : goal.overflow_add-at
-overflow_add-at c =
-    let b = c.node_at-node.ensures in
-    let f = fits (drop c.loop-pending.at c.args.words.now) c.node_at-node.result b in
-    omega (arith, f.0, c.size-at.ensures, c.loop-pending.invariant.0, length-drop c.loop-pending.at c.args.words.now)
 
 pub node_at-node-requires : goal.node_at-node-requires
 node_at-node-requires c =
@@ -45,6 +33,3 @@ node_at-node-requires c =
 -- what is known at the end of the loop, of whatever program stands at the start
 over : (c : goal.After-loop-pending) (p : P) (rest : List ℕ) → drop c.args.start c.args.words.now ≡ row p ++ rest → (c.loop-pending.at ≡ c.args.start + length (row p)) × (c.loop-pending.quiet ≡ still p)
 over c p rest e = gone_over c.args.words.now c.args.start c.loop-pending.at c.loop-pending.quiet c.loop-pending.pending p rest (omega arith) (c.loop-pending.invariant.1 p rest e)
-
-pub returns : goal.returns
-returns c = record { ends = λ p rest e. (over c p rest e).0; does = λ p rest e. (over c p rest e).1; within = c.loop-pending.invariant.0 }

@@ -27,11 +27,3 @@ loop-step-preserved c =
     let a = z.2 0 in
     let b = z.3 0 in
     rw (a, b, length_push) (omega arith, sym (place_more c.loop-step.address (length c.loop-step.yielded) c.args.self.depth c.args.steps.now c.args.self.at (omega arith) z.0 (omega arith)) ∙ c.loop-step.invariant.1)
-
-pub returns : goal.returns
-returns c =
-    let e = zip_end c.args.steps.now c.args.self.at c.loop-step.yielded c.into_iter-step-iterator.result c.loop-step.step-iterator c.next.new.self c.next.result (cc) (cc) c.loop-step.yielded_by c.in-None.is c.next.ensures.steps in
-    record {
-      value = sym (place_all c.loop-step.address (length c.loop-step.yielded) c.args.steps.now _ (omega arith)) ∙ c.loop-step.invariant.1;
-      bound = omega arith;
-    }
