@@ -1,6 +1,7 @@
 ghost use Rattle.std.specs.Prelude.{◌≡◌, ◌++◌, OnOk};
 ghost use Rattle.console.specs.Chosen.{choices_in, picked};
 
+use listing::ShownByte;
 use std::alloc::{AllocError, Global};
 use std::fmt;
 
@@ -15,15 +16,9 @@ pub enum BadChoice {
 impl fmt::Display for BadChoice {
     fn fmt<W: fmt::Write>(&self, f: &mut fmt::Formatter<W>) -> fmt::Result {
         match *self {
-            BadChoice::NoChoice(byte) if byte.is_ascii_graphic() => {
-                let sign = char::from(byte);
-                write!(f, "'{sign}' is no choice: 1 is the first, 0 the second")
-            }
             BadChoice::NoChoice(byte) => {
-                write!(
-                    f,
-                    "byte 0x{byte:02x} is no choice: 1 is the first, 0 the second"
-                )
+                let byte = ShownByte(byte);
+                write!(f, "{byte} is no choice: 1 is the first, 0 the second")
             }
             BadChoice::TooMany(room) => write!(f, "more than {room} choices"),
         }

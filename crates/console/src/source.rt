@@ -6,17 +6,11 @@ use crate::choices::ChoiceText;
 use crate::failure::Failure;
 use cycles::geometry::Geometry;
 use cycles::reader::read;
+pub use listing::Room;
 use listing::{Flaw, Listing};
 use std::alloc::Global;
 use std::io::Read;
 use std::{fs, io};
-
-// How many words, and words and lines together, there is room for: 4 bytes a word and a bit a mark.
-#[derive(Clone, Copy)]
-pub struct Room {
-    pub words: usize,
-    pub marks: usize,
-}
 
 const PIECE: usize = 4096;
 
@@ -111,14 +105,14 @@ pub struct Source {
 
 impl Source {
     pub fn from_stdin(rt: &HostRuntime, room: Room) -> Result<Source, Failure> {
-        let mut listing = Listing::new(rt.alloc(), room.words, room.marks)?;
+        let mut listing = Listing::new(rt.alloc(), room)?;
         let end = read_text(rt.stdin(), &mut listing);
         let name = String::from_str(rt.alloc(), "standard input")?;
         Source::ended(name, listing, end)
     }
 
     pub fn from_file(rt: &HostRuntime, room: Room, path: String) -> Result<Source, Failure> {
-        let mut listing = Listing::new(rt.alloc(), room.words, room.marks)?;
+        let mut listing = Listing::new(rt.alloc(), room)?;
         let end = match fs::open(rt, path.as_str()) {
             Err(error) => Err(Stop::Input(error)),
             Ok(file) => read_text(file, &mut listing),
@@ -128,7 +122,7 @@ impl Source {
 
     // A text that is there already, under a name for messages.
     pub fn from_text(heap: Global, room: Room, name: &str, text: &[u8]) -> Result<Source, Failure> {
-        let mut listing = Listing::new(heap, room.words, room.marks)?;
+        let mut listing = Listing::new(heap, room)?;
         let end = read_text(text, &mut listing);
         Source::ended(String::from_str(heap, name)?, listing, end)
     }

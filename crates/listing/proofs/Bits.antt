@@ -3,6 +3,7 @@ use Rattle.std.proofs.Common.{◌≡◌, ℕ, zero, suc, ◌+◌, ◌-◌, ◌*�
 use mir.Val.{bool_byte}
 use native.Mathlib.Nat.{div-div-eq-div-mul, pow-succ', pow-zero}
 use Rattle.std.proofs.lemmas.Bool.{cases_lt}
+use Rattle.std.proofs.lemmas.Grind.{pow_more}
 use Rattle.std.proofs.lemmas.List.{append-nil, length_push, get_or_append_left, get_or-append_right, get_or_push, get_or_read}
 use Rattle.listing.specs.declared.marks.Marks.{Marks}
 use Rattle.listing.specs.Packed.{bits_of, spread, marks_of}
@@ -54,10 +55,6 @@ push_full ws vs r h x b e f g =
 pub bit_small : (b : Bool) → bool_byte b ≤ 1
 bit_small true = omega arith
 bit_small false = omega arith
-
--- the head with one bit more is below the next power
-pub head_small : (r h x : ℕ) (b : Bool) → x ≡ bool_byte b → h < 2 ^ r → h * 2 + x < 2 ^ (r + 1)
-head_small r h x b e l = rw (add-one, pow-succ') (omega (arith, bit_small b))
 
 -- the bit at a place, by a shift
 
@@ -120,3 +117,6 @@ mark_head m i k l =
     let r : i % 32 < m.held = omega arith in
     let o : m.held - 1 - i % 32 ≡ m.held - suc (i % 32) = omega arith in
     rw o (sym (get_or-append_right (spread (vec_items m.full)) (bits_of m.held m.head) (32 * vec_len m.full) i false (sym z) (omega arith) ∙ rw n (bits_at m.held m.head (i % 32) r)))
+
+-- what the marks' functions stand on
+pub ruleset packed = (length_marks, push_head, push_full, bit_small, pow_more, mark_full, mark_head)

@@ -3,3 +3,4 @@ pub mod Comments
 pub mod Counts
 pub mod Decimals
 pub mod Steps
+pub mod Theorems

@@ -1,7 +1,8 @@
 -- The theorems about reading, as types.
 use Rattle.std.specs.Prelude.{◌≡◌, ℕ, ◌^◌, ◌<◌, ◌≤◌, Bool, true, false, cond, List, [], ◌∷◌, ◌++◌, map, length, Ok, Err, decimal, Result, ◌≢◌}
 use Rattle.listing.specs.declared.text.Mode.TheVariants.{Between}
-use Rattle.listing.specs.Text.{Text, Limits, Stop, empty, reads}
+use Rattle.listing.specs.declared.text.Room.{Room}
+use Rattle.listing.specs.Text.{Text, Stop, empty, reads}
 
 abbrev pub onward : Result Text Stop → (Text → Result Text Stop) → Result Text Stop
 onward (Ok u) k = k u
@@ -9,7 +10,7 @@ onward (Err s) k = Err s
 
 -- how a text is cut into pieces changes nothing
 abbrev pub CutAnywhere : Type 0
-CutAnywhere = (l : Limits) (front rest : List ℕ) (t : Text) → reads l (front ++ rest) t ≡ onward (reads l front t) (λ u. reads l rest u)
+CutAnywhere = (l : Room) (front rest : List ℕ) (t : Text) → reads l (front ++ rest) t ≡ onward (reads l front t) (λ u. reads l rest u)
 
 -- words, each with a newline (true) or a space (false) behind it
 abbrev pub Row : Type 0
@@ -30,7 +31,7 @@ Small (p ∷ ps) = (p.0 < 2 ^ 32) × Small ps
 
 -- words that are written in decimal are read back as they were, if there is room for them
 abbrev pub ReadBack : Type 0
-ReadBack = (l : Limits) (ps : Row) → Small ps → length ps ≤ l.most_words → length (marked ps) ≤ l.most_marks → reads l (written ps) empty ≡ Ok (record { words = map (λ p. p.0) ps; marks = marked ps; mode = Between })
+ReadBack = (l : Room) (ps : Row) → Small ps → length ps ≤ l.words → length (marked ps) ≤ l.marks → reads l (written ps) empty ≡ Ok (record { words = map (λ p. p.0) ps; marks = marked ps; mode = Between })
 
 -- bytes of one line
 abbrev pub SameLine : List ℕ → Type 0
@@ -39,4 +40,4 @@ SameLine (b ∷ bs) = (b ≢ 10) × SameLine bs
 
 -- a comment is as if it were not there, up to the newline that ends it
 abbrev pub CommentsSkipped : Type 0
-CommentsSkipped = (l : Limits) (t : Text) (note rest : List ℕ) → t.mode ≡ Between → SameLine note → length t.marks < l.most_marks → reads l (35 ∷ (note ++ (10 ∷ rest))) t ≡ reads l (10 ∷ rest) t
+CommentsSkipped = (l : Room) (t : Text) (note rest : List ℕ) → t.mode ≡ Between → SameLine note → length t.marks < l.marks → reads l (35 ∷ (note ++ (10 ∷ rest))) t ≡ reads l (10 ∷ rest) t

@@ -1,11 +1,21 @@
 // A text is read into the words that its numbers are.
 mod reading;
 
-ghost use Rattle.std.specs.Prelude.{◌+◌, ◌≤◌, vec_len, vec_capacity};
+ghost use Rattle.std.specs.Prelude.{◌≡◌, ◌+◌, ◌≤◌, vec_len, vec_capacity};
+ghost use Rattle.listing.specs.declared.text.Flaw.TheVariants.{TooManyLines};
 ghost use Rattle.listing.specs.Rooms.{begun};
 
-use crate::marks::Marks;
+use crate::byte::ShownByte;
+use crate::marks::{Full, Marks};
+use std::error::Error;
 use std::fmt;
+
+// How many words, and words and lines together, there is room for: 4 bytes a word and a bit a mark.
+#[derive(Clone, Copy, PartialEq, Eq, Debug)]
+pub struct Room {
+    pub words: usize,
+    pub marks: usize,
+}
 
 // What is wrong with a byte of the text; the last two have the room that there was.
 #[derive(Clone, Copy, PartialEq, Eq, Debug)]
@@ -19,25 +29,29 @@ pub enum Flaw {
 impl fmt::Display for Flaw {
     fn fmt<W: fmt::Write>(&self, f: &mut fmt::Formatter<W>) -> fmt::Result {
         match *self {
-            Flaw::NotDigit(byte) if byte.is_ascii_graphic() => {
-                let sign = char::from(byte);
-                write!(f, "'{sign}' is no digit: a word is a decimal number")
-            }
             Flaw::NotDigit(byte) => {
-                write!(
-                    f,
-                    "byte 0x{byte:02x} is no digit: a word is a decimal number"
-                )
+                let byte = ShownByte(byte);
+                write!(f, "{byte} is no digit: a word is a decimal number")
             }
             Flaw::TooLarge => write!(f, "the number is larger than 4294967295, the largest word"),
             Flaw::TooManyWords(room) => write!(f, "more than {room} words"),
-            Flaw::TooManyLines(room) => write!(f, "more than {room} words and lines together"),
+            Flaw::TooManyLines(room) => Full { room }.fmt(f),
         }
     }
 }
 
+impl Error for Flaw {}
+
+impl From<Full> for Flaw {
+    ghost from_gives = { λ full flaw. flaw ≡ TooManyLines full.room };
+
+    fn from(full: Full) -> Flaw {
+        Flaw::TooManyLines(full.room)
+    }
+}
+
 // Where reading has come to: between two numbers, in a number with its value so far, or in a comment.
-#[derive(Clone, Copy)]
+#[derive(Clone, Copy, PartialEq, Eq, Debug)]
 enum Mode {
     Between,
     Number(u32),
@@ -45,7 +59,7 @@ enum Mode {
 }
 
 // The words of the text so far. A word has its mark from its first digit on, and in a number there is room for its word.
-#[derive(Drop)]
+#[derive(Debug, Drop)]
 pub struct Listing {
     words: Vec<u32>,
     most_words: usize,
@@ -62,7 +76,13 @@ mod tests {
 
     #[test]
     fn reads_words_and_their_lines(rt: HostRuntime) -> Result<(), Fail> {
-        let mut listing = Listing::new(rt.alloc(), 8, 16)?;
+        let mut listing = Listing::new(
+            rt.alloc(),
+            Room {
+                words: 8,
+                marks: 16,
+            },
+        )?;
         listing.feed(b"# 9 words\n1\t007 \r\n\n 4294967295#2\n")?;
         listing.feed(b"1")?;
         listing.feed(b"2")?;
@@ -79,7 +99,7 @@ mod tests {
 
     #[test]
     fn tells_each_flaw(rt: HostRuntime) -> Result<(), Fail> {
-        let mut listing = Listing::new(rt.alloc(), 2, 4)?;
+        let mut listing = Listing::new(rt.alloc(), Room { words: 2, marks: 4 })?;
         assert_eq!(rt; listing.feed(b"\n1x"), Err(Flaw::NotDigit(b'x')));
         assert_eq!(rt; listing.line(), 2);
         assert_eq!(rt; listing.feed(b"\n4294967296"), Err(Flaw::TooLarge));

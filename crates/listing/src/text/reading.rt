@@ -1,14 +1,14 @@
 ghost use Rattle.std.specs.Prelude.{◌≡◌, ◌+◌, IfOk};
 ghost use Rattle.listing.specs.Laws.{CutAnywhere, ReadBack, CommentsSkipped};
 ghost use Rattle.listing.specs.Lines.{newlines_in, line_of};
-ghost use Rattle.listing.specs.Text.{Came, Fed, empty, shown, limits_of, sign_of, begins, lengthened, ended, lined, between, in_number, in_comment, step, reads, finished};
+ghost use Rattle.listing.specs.Text.{Fed, Makes, empty, shown, limits_of, sign_of, begins, lengthened, ended, lined, between, in_number, in_comment, step, reads, finished};
 
-use super::{Flaw, Listing, Mode};
+use super::{Flaw, Listing, Mode, Room};
 use crate::marks::Marks;
 use std::alloc::{AllocError, Global};
 
 // What a byte is to the reader.
-#[derive(Clone, Copy)]
+#[derive(Clone, Copy, PartialEq, Eq, Debug)]
 enum Sign {
     Digit(u8),
     Blank,
@@ -17,15 +17,13 @@ enum Sign {
     Other,
 }
 
-impl Sign {
-    fn of(byte: u8) -> Sign
-        ensures { result ≡ sign_of byte }
-    {
+impl From<u8> for Sign {
+    ghost from_gives = { λ byte sign. sign ≡ sign_of byte };
+
+    fn from(byte: u8) -> Sign {
         match byte {
             b'0'..=b'9' => Sign::Digit(byte - b'0'),
-            b' ' => Sign::Blank,
-            b'\t' => Sign::Blank,
-            b'\r' => Sign::Blank,
+            b' ' | b'\t' | b'\r' => Sign::Blank,
             b'\n' => Sign::Newline,
             b'#' => Sign::Hash,
             _ => Sign::Other,
@@ -35,15 +33,13 @@ impl Sign {
 
 impl Listing {
     // An empty text, with all the memory that its words and its marks, one for each word and each newline, will take.
-    pub fn new(heap: Global, most_words: usize, most_marks: usize) -> Result<Listing, AllocError>
-        ensures { IfOk result (λ l. (shown l ≡ empty) × (limits_of l ≡ record { most_words = most_words; most_marks = most_marks })) }
+    pub fn new(heap: Global, room: Room) -> Result<Listing, AllocError>
+        ensures { IfOk result (λ l. (shown l ≡ empty) × (limits_of l ≡ room)) }
     {
-        let words = Vec::with_capacity(heap, most_words)?;
-        let marks = Marks::new(heap, most_marks)?;
         Ok(Listing {
-            words,
-            most_words,
-            marks,
+            words: Vec::with_capacity(heap, room.words)?,
+            most_words: room.words,
+            marks: Marks::new(heap, room.marks)?,
             mode: Mode::Between,
         })
     }
@@ -58,7 +54,8 @@ impl Listing {
     pub fn into_words(self) -> Vec<u32>
         ensures { result.items ≡ (shown self).words }
     {
-        self.words
+        let Listing { words, .. } = self;
+        words
     }
 
     // The line, from 1, on which the word number `word`, from 0, stands.
@@ -76,6 +73,7 @@ impl Listing {
     }
 
     // Reads the next piece of the text. At a flaw the listing stays as it was before the byte that is wrong.
+    #[tactic(auto, using(crate::proofs::Steps::runs, crate::proofs::Theorems::theorems))]
     pub fn feed(&mut self, bytes: &[u8]) -> Result<(), Flaw>
         ensures fed { Fed result (shown self.new) (reads (limits_of self.old) bytes.now (shown self.old)) }
         ensures limits { limits_of self.new ≡ limits_of self.old }
@@ -99,9 +97,9 @@ impl Listing {
         }
     }
 
+    #[tactic(auto, using(crate::proofs::Steps::bytes))]
     fn read(&mut self, byte: u8) -> Result<(), Flaw>
-        ensures came { Came result (shown self.old) (shown self.new) (step (limits_of self.old) (shown self.old) byte) }
-        ensures limits { limits_of self.new ≡ limits_of self.old }
+        ensures { Makes result self.old self.new (λ room text. step room text byte) }
     {
         match self.mode {
             Mode::Between => self.read_between(byte),
@@ -112,10 +110,9 @@ impl Listing {
 
     fn read_between(&mut self, byte: u8) -> Result<(), Flaw>
         requires { self.old.mode ≡ Mode.Between }
-        ensures came { Came result (shown self.old) (shown self.new) (between (limits_of self.old) (shown self.old) byte (sign_of byte)) }
-        ensures limits { limits_of self.new ≡ limits_of self.old }
+        ensures { Makes result self.old self.new (λ room text. between room text byte (sign_of byte)) }
     {
-        match Sign::of(byte) {
+        match Sign::from(byte) {
             Sign::Digit(digit) => self.begin_word(digit),
             Sign::Blank => Ok(()),
             Sign::Newline => self.mark_line(),
@@ -129,10 +126,9 @@ impl Listing {
 
     fn read_in_number(&mut self, value: u32, byte: u8) -> Result<(), Flaw>
         requires { self.old.mode ≡ Mode.Number value }
-        ensures came { Came result (shown self.old) (shown self.new) (in_number (limits_of self.old) (shown self.old) value byte (sign_of byte)) }
-        ensures limits { limits_of self.new ≡ limits_of self.old }
+        ensures { Makes result self.old self.new (λ room text. in_number room text value byte (sign_of byte)) }
     {
-        match Sign::of(byte) {
+        match Sign::from(byte) {
             Sign::Digit(digit) => self.lengthen(value, digit),
             Sign::Blank => {
                 self.end_word(value);
@@ -154,8 +150,7 @@ impl Listing {
 
     fn read_in_comment(&mut self, byte: u8) -> Result<(), Flaw>
         requires { self.old.mode ≡ Mode.Comment }
-        ensures came { Came result (shown self.old) (shown self.new) (in_comment (limits_of self.old) (shown self.old) byte) }
-        ensures limits { limits_of self.new ≡ limits_of self.old }
+        ensures { Makes result self.old self.new (λ room text. in_comment room text byte) }
     {
         if byte == b'\n' {
             self.mark_line()?;
@@ -167,29 +162,25 @@ impl Listing {
     // Marks the word that begins with this digit, if there is room for it.
     fn begin_word(&mut self, digit: u8) -> Result<(), Flaw>
         requires { self.old.mode ≡ Mode.Between }
-        ensures came { Came result (shown self.old) (shown self.new) (begins (limits_of self.old) (shown self.old) digit) }
-        ensures limits { limits_of self.new ≡ limits_of self.old }
+        ensures { Makes result self.old self.new (λ room text. begins room text digit) }
     {
         if self.words.len() == self.most_words {
             return Err(Flaw::TooManyWords(self.most_words));
         }
-        if !self.marks.push(false) {
-            return Err(Flaw::TooManyLines(self.marks.room()));
-        }
+        self.marks.push(false)?;
         self.mode = Mode::Number(u32::from(digit));
         Ok(())
     }
 
     fn lengthen(&mut self, value: u32, digit: u8) -> Result<(), Flaw>
         requires { self.old.mode ≡ Mode.Number value }
-        ensures came { Came result (shown self.old) (shown self.new) (lengthened (shown self.old) value digit) }
-        ensures limits { limits_of self.new ≡ limits_of self.old }
+        ensures { Makes result self.old self.new (λ _ text. lengthened text value digit) }
     {
-        let longer = u64::from(value) * 10 + u64::from(digit);
-        if longer > u64::from(u32::MAX) {
-            return Err(Flaw::TooLarge);
-        }
-        self.mode = Mode::Number(longer as u32);
+        let longer = value
+            .checked_mul(10)
+            .and_then(|tens| tens.checked_add(u32::from(digit)))
+            .ok_or(Flaw::TooLarge)?;
+        self.mode = Mode::Number(longer);
         Ok(())
     }
 
@@ -203,13 +194,9 @@ impl Listing {
     }
 
     fn mark_line(&mut self) -> Result<(), Flaw>
-        ensures came { Came result (shown self.old) (shown self.new) (lined (limits_of self.old) (shown self.old)) }
-        ensures limits { limits_of self.new ≡ limits_of self.old }
+        ensures { Makes result self.old self.new lined }
     {
-        if self.marks.push(true) {
-            Ok(())
-        } else {
-            Err(Flaw::TooManyLines(self.marks.room()))
-        }
+        self.marks.push(true)?;
+        Ok(())
     }
 }
