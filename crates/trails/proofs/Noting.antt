@@ -83,18 +83,18 @@ added_noted a s t b h whole free =
 
 -- into a new head
 
-pub shelved_noted : (a : ℕ) (s : List ℕ) (t : Telling) (b : Bool) → Sound a s t → Whole a t → 0 < t.recorded → t.recorded % 32 ≡ 0 → t.recorded < 4294967264 → Noted a s (s ++ (t.parent ∷ (t.head ∷ []))) t (added (shelved (length s) (counted t)) b) b
-shelved_noted a s t b h whole some full-head few =
+pub shelved_noted : (a : ℕ) (s : List ℕ) (p : ℕ) (t : Telling) (b : Bool) → p ≡ length s → Sound a s t → Whole a t → 0 < t.recorded → t.recorded % 32 ≡ 0 → t.recorded < 4294967264 → Noted a s (s ++ (t.parent ∷ (t.head ∷ []))) t (added (shelved p (counted t)) b) b
+shelved_noted a s p t b place h whole some full-head few =
     let k = full t.recorded in
     let s' = s ++ (t.parent ∷ (t.head ∷ [])) in
-    let t' = added (shelved (length s) (counted t)) b in
+    let t' = added (shelved p (counted t)) b in
     let f = full_more t.recorded some full-head in
     let g : record_of s t ≡ chain s k t.parent ++ bits_of 32 t.head = rw f.1 in
     let one : bits_of 1 (0 * 2 + bit b) ≡ b ∷ [] = bits_push 0 0 b ∙ rw (bits_none 0) in
-    let r : record_of s' t' ≡ record_of s t ++ (b ∷ []) = rw (f.2, f.0, one, chain_node s k t.parent t.head h.lies, ← g) in
+    let r : record_of s' t' ≡ record_of s t ++ (b ∷ []) = rw (f.2, f.0, one, place, chain_node s k t.parent t.head h.lies, ← g) in
     record {
       time = refl;
       counts = refl;
-      sound = record { few = omega arith; within = omega (arith, whole.1); small = rw f.2 (omega (arith, bit_small b)); lies = rw f.0 (lies_node s k t.parent t.head h.lies); all = inl (omega (arith, whole.0, whole.1)) };
+      sound = record { few = omega arith; within = omega (arith, whole.1); small = rw f.2 (omega (arith, bit_small b)); lies = rw (f.0, place) (lies_node s k t.parent t.head h.lies); all = inl (omega (arith, whole.0, whole.1)) };
       tells = recorded_tells a s s' t t' b whole refl refl r;
     }
