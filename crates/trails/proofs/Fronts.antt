@@ -1,6 +1,6 @@
 -- What is told over a store is told over a longer one too.
-use Rattle.std.proofs.Common.{◌≡◌, ℕ, ◌≤◌, Bool, List, ◌++◌, length, take, drop, sym, refl, ap, ◌∙◌, subst, arith}
-use Rattle.std.proofs.lemmas.List.{length-take-le, take_at, take-take, take-append-drop}
+use Rattle.std.proofs.Common.{◌≡◌, ℕ, ◌+◌, ◌-◌, ◌≤◌, Bool, List, ◌++◌, length, take, drop, sym, refl, ap, ◌∙◌, subst, arith}
+use Rattle.std.proofs.lemmas.List.{drop-drop, length-take-le, take_at, take-take, take-append-drop}
 use Rattle.trails.specs.declared.store.Store.{Store}
 use Rattle.trails.specs.declared.telling.Telling.{Telling}
 use Rattle.trails.specs.Stores.{Grown, nodes}
@@ -39,6 +39,24 @@ grown_pushed s s' u same long above pushed rest =
       front = sym (take-take s.top s'.top s'.words.now above) ∙ ap (take s.top) pushed ∙ take_at (nodes s) u s.top (length-take-le s.top s.words.now s.within);
       rest = rest;
       keeps = subst (Keeps (nodes s)) (sym pushed) (keeps_front (nodes s) u);
+    }
+
+-- a store that grows twice
+
+drop_from : (b d : ℕ) (t s : List ℕ) → b ≤ d → drop b t ≡ drop b s → drop d t ≡ drop d s
+drop_from b d t s l e =
+    let q : d ≡ b + (d - b) = omega arith in
+    rw q (sym (drop-drop (d - b) b t) ∙ ap (drop (d - b)) e ∙ drop-drop (d - b) b s)
+
+pub grown_on : (s t u : Store) → Grown s t → Grown t u → Grown s u
+grown_on s t u g h =
+    record {
+      same = h.same ∙ g.same;
+      long = h.long ∙ g.long;
+      above = omega (arith, g.above, h.above);
+      front = sym (take-take s.top t.top u.words.now g.above) ∙ ap (take s.top) h.front ∙ take-take s.top t.top t.words.now g.above ∙ g.front;
+      rest = h.rest ∙ drop_from t.top u.top t.words.now s.words.now h.above g.rest;
+      keeps = λ a x bs k w. let r = g.keeps a x bs k w in h.keeps a x bs r.0 r.1;
     }
 
 -- over what lies below the top of a store, and so over all of it

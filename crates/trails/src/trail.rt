@@ -46,6 +46,7 @@ impl Telling {
     }
 
     // Makes the full head a node, so that the head is empty.
+    #[tactic(auto, using(crate::proofs::Fronts::grown_pushed))]
     fn shelve(&mut self, store: &mut Store<'_>)
         requires room { store.old.top + 2 ≤ length store.old.words.now }
         requires place { store.old.top < 2 ^ 32 }
@@ -87,6 +88,7 @@ impl Telling {
     }
 
     // Takes the last choice away from a record that has one, and returns it.
+    #[tactic(auto, using(crate::proofs::Told::node_in, crate::proofs::Told::lies_before, crate::proofs::Told::last_node, crate::proofs::Told::last_head))]
     fn pop(&mut self, store: &[u32]) -> bool
         requires some { 0 < self.old.recorded }
         requires lies { Lies store.now (full self.old.recorded) self.old.parent }
@@ -107,6 +109,7 @@ impl Telling {
     }
 
     // Writes the recorded choices to the front of out, 1 for the first branch and 0 for the second, and returns how many they are.
+    #[tactic(auto, using(crate::proofs::Told::said_none))]
     pub fn tell(self, store: &[u32], out: &mut [u8]) -> usize
         requires room { self.recorded ≤ length out.old }
         requires lies { Lies store.now (full self.recorded) self.parent }

@@ -1,7 +1,6 @@
 use Rattle.std.proofs.Common.{◌≡◌, length, sym}
 use Rattle.std.proofs.lemmas.List.{length-take-le}
 use Rattle.trails.specs.Stores.{nodes}
-use Rattle.trails.proofs.Fronts.{grown_none}
 use Rattle.trails.proofs.Noting.{Noted, added_noted, shelved_noted}
 use Rattle.trails.proofs.telling.Telling.note.Goals.{then-not-head_has_room+else-not-is_shelvable, else-not-head_has_room}
 use Rattle.trails.proofs.telling.Telling.note.Goals as goal
@@ -18,13 +17,6 @@ noted c =
           let f = w.if-not-head_has_room.ensures in
           rw (c.add.ensures, w.self-is, w.store-is, w.shelve.ensures.telling, w.shelve.ensures.pushed) (shelved_noted a s c.args.store.now.top t c.args.choice place c.requires.sound c.if-not-whole.ensures f.0 f.1 w.if-not-is_shelvable.ensures.2)
       | else-not-head_has_room w ↦ rw (c.add.ensures, w.self-is, w.store-is) (added_noted a s t c.args.choice c.requires.sound c.if-not-whole.ensures w.if-not-head_has_room.ensures)
-    ]
-
-pub returns-clause-grown : goal.returns-clause-grown
-returns-clause-grown c =
-    elim c.if-not-head_has_room.branch [
-      | then-not-head_has_room+else-not-is_shelvable w ↦ rw w.store-is w.shelve.ensures.grown
-      | else-not-head_has_room w ↦ rw w.store-is (grown_none c.args.store.now)
     ]
 
 pub returns-clause-sound : goal.returns-clause-sound
