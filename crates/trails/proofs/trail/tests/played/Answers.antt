@@ -1,4 +1,4 @@
-use Rattle.std.proofs.Common.{◌≡◌, rules, subst, sym}
+use Rattle.std.proofs.Common.{rules, subst}
 use Rattle.trails.specs.Trails.{Lies, full}
 use Rattle.trails.proofs.Fronts.{sound_within}
 use Rattle.trails.proofs.trail.tests.played.Goals as goal
