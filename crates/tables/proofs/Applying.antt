@@ -3,15 +3,18 @@ use Rattle.std.proofs.Common.{◌≡◌, ℕ, ◌+◌, ◌-◌, ◌*◌, ◌<◌
 use borrow.Rule.Slice.PartMut.{put_mid}
 use Rattle.std.proofs.lemmas.List.{drop-drop}
 use Rattle.cycles.specs.Code.{Cache}
+use Rattle.trails.specs.declared.store.Store.{Store}
+use Rattle.trails.specs.Stores.{Grown, nodes}
 use Rattle.trails.specs.Trails.{Keeps, telling_of}
+use Rattle.trails.proofs.Fronts.{grown_on}
 use Rattle.tables.specs.Best.{Val, Both, Table, told, Has, first, later}
 use Rattle.tables.specs.Each.{Each, At, here, there}
-use Rattle.tables.specs.Showing.{cells, width, Shown, Shows, Showing, Grown, Notable, Spendable}
+use Rattle.tables.specs.Showing.{cells, width, Shown, Shows, Showing, Notable, Spendable}
 use Rattle.tables.specs.Slots.{chunks, chunk, over}
 use Rattle.tables.specs.Tables.{Entry, chose}
 use Rattle.tables.proofs.Chunks.{within, length_chunk, length_chunks, chunk_at, chunks_set, put_over, drop_beyond}
 use Rattle.tables.proofs.Eaches.{upto, upto_all, each_at, each_length, each_change}
-use Rattle.tables.proofs.Matching.{shown_kept, grown_on, keeps_on}
+use Rattle.tables.proofs.Matching.{shown_kept}
 
 -- the slots from the k-th on are as they were
 abbrev pub Rest : ℕ → ℕ → List ℕ → List ℕ → Type 0
@@ -84,23 +87,21 @@ pub applied_all : {c : Cache} {n k : ℕ} {f : Entry (Both Val) → Entry (Both 
 applied_all {c = c} {n = n} {k = k} {f = f} {xs = xs} {ys = ys} h p a s T r = shows_all c a n k s s f xs ys T h r (p.shows a s T r)
 
 -- a choice is noted in k of the n slots, and the store has grown
-pub record Noted (c : Cache) (a : Both ℕ) (n k : ℕ) (b : Bool) (top end : ℕ) (s t xs ys : List ℕ) : Type 0 where
+pub record Noted (c : Cache) (a : Both ℕ) (n k : ℕ) (b : Bool) (s t : Store) (xs ys : List ℕ) : Type 0 where
   pub rest : Rest (width c) k xs ys
-  pub grown : Grown top end s t
-  pub keeps : Keeps (take top s) (take end t)
-  pub shows : (T : Table) → Shows c a (take top s) n xs T → Shows c a (take end t) n ys (upto k (chose told b) T)
+  pub grown : Grown s t
+  pub shows : (T : Table) → Shows c a (nodes s) n xs T → Shows c a (nodes t) n ys (upto k (chose told b) T)
 
-pub noted_more : {c : Cache} {a : Both ℕ} {n k w : ℕ} {b : Bool} {top end last : ℕ} {s t u xs ys new : List ℕ} → w ≡ width c → k < n → width c * n ≤ length ys → length new ≡ length (part w k ys) → Grown end last t u → Keeps (take end t) (take last u) → ((e : Entry (Both Val)) → Shown c a (take end t) (part w k ys) e → Shown c a (take last u) new (chose told b e)) → Noted c a n k b top end s t xs ys → Noted c a n (k + 1) b top last s u xs (put_part w k ys new)
-noted_more {c = c} {a = a} {n = n} {k = k} {w = w} {b = b} {top = top} {end = end} {last = last} {s = s} {t = t} {u = u} {xs = xs} {ys = ys} {new = new} wide less fits long g f h p =
+pub noted_more : {c : Cache} {a : Both ℕ} {n k w : ℕ} {b : Bool} {s t u : Store} {xs ys new : List ℕ} → w ≡ width c → k < n → width c * n ≤ length ys → length new ≡ length (part w k ys) → Grown t u → ((e : Entry (Both Val)) → Shown c a (nodes t) (part w k ys) e → Shown c a (nodes u) new (chose told b e)) → Noted c a n k b s t xs ys → Noted c a n (k + 1) b s u xs (put_part w k ys new)
+noted_more {c = c} {a = a} {n = n} {k = k} {w = w} {b = b} {s = s} {t = t} {u = u} {xs = xs} {ys = ys} {new = new} wide less fits long g h p =
     record {
       rest = rest_put c n k w ys wide less fits new long xs p.rest;
-      grown = grown_on top end last s t u p.grown g;
-      keeps = keeps_on (take top s) (take end t) (take last u) p.keeps f;
-      shows = λ T r. each_put c n k w ys wide less fits new long (Shown c a (take end t)) (Shown c a (take last u)) (chose told b) T (λ v e q. shown_kept c a (take end t) (take last u) v e f q) h (p.shows T r);
+      grown = grown_on s t u p.grown g;
+      shows = λ T r. each_put c n k w ys wide less fits new long (Shown c a (nodes t)) (Shown c a (nodes u)) (chose told b) T (λ v e q. shown_kept c a (nodes t) (nodes u) v e g.keeps q) h (p.shows T r);
     }
 
-pub noted_all : {c : Cache} {a : Both ℕ} {n k : ℕ} {b : Bool} {top end : ℕ} {s t xs ys : List ℕ} → n ≤ k → Noted c a n k b top end s t xs ys → (T : Table) → Shows c a (take top s) n xs T → Shows c a (take end t) n ys (map (chose told b) T)
-noted_all {c = c} {a = a} {n = n} {k = k} {b = b} {top = top} {end = end} {s = s} {t = t} {xs = xs} {ys = ys} h p T r = shows_all c a n k (take top s) (take end t) (chose told b) xs ys T h r (p.shows T r)
+pub noted_all : {c : Cache} {a : Both ℕ} {n k : ℕ} {b : Bool} {s t : Store} {xs ys : List ℕ} → n ≤ k → Noted c a n k b s t xs ys → (T : Table) → Shows c a (nodes s) n xs T → Shows c a (nodes t) n ys (map (chose told b) T)
+noted_all {c = c} {a = a} {n = n} {k = k} {b = b} {s = s} {t = t} {xs = xs} {ys = ys} h p T r = shows_all c a n k (nodes s) (nodes t) (chose told b) xs ys T h r (p.shows T r)
 
 pub has_at : {e : Entry (Both Val)} {k : ℕ} {T : Table} → At e k T → Has e T
 has_at here = first

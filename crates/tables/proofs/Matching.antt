@@ -1,6 +1,6 @@
 -- What slots show as they are changed: cycles spent, an address touched, a choice noted, the better of two tellings kept.
-use Rattle.std.proofs.Common.{◌≡◌, ℕ, ◌+◌, ◌-◌, ◌≤◌, Bool, List, [], ◌∷◌, ◌++◌, length, take, drop, sym, ap, ◌∙◌, subst, append-nil, arith}
-use Rattle.std.proofs.lemmas.List.{drop-drop, take-take}
+use Rattle.std.proofs.Common.{◌≡◌, ℕ, ◌+◌, ◌≤◌, Bool, List, [], ◌∷◌, ◌++◌, length, drop, sym, ap, ◌∙◌, subst, append-nil, arith}
+use Rattle.std.proofs.lemmas.List.{drop-drop}
 use Rattle.cycles.specs.Code.{pick, Cache, after, cost}
 use Rattle.machine.specs.Cells.{state_of, TidyCells}
 use Rattle.machine.proofs.CellLaws.{sets_take}
@@ -10,7 +10,7 @@ use Rattle.trails.specs.Trails.{Keeps, telling_of}
 use Rattle.tables.specs.declared.slot.Extreme.{Extreme}
 use Rattle.tables.specs.declared.slot.Extreme.TheVariants.{Longest, Shortest}
 use Rattle.tables.specs.Best.{Val, Both, plus, longer, shorter, told}
-use Rattle.tables.specs.Showing.{cells, width, Matches, Shown, Retold, Put, Grown, later, as_good, better_of}
+use Rattle.tables.specs.Showing.{cells, width, Matches, Shown, Retold, Put, later, as_good, better_of}
 use Rattle.tables.specs.Tables.{Entry, spent, touched, chose}
 use Rattle.tables.proofs.Lifts.{pick_both}
 use Rattle.tables.proofs.Overs.{retold}
@@ -97,22 +97,3 @@ module _ (c : Cache) (a : Both ℕ) (ws xs ys : List ℕ) (k : ℕ) (is : k ≡ 
       let h = subst (λ j. Matches a.short s (telling_of (drop (j + 7) ws)) e.val.short) (sym is) m.short in
       let i = g e.val.short (matches_as a.short s₁ (telling_of (drop (k + 7) ws)) _ e.val.short (ap telling_of p.behind) (matches_kept a.short s s₁ _ e.val.short keeps h)) in
       shown_retold c a a s s₂ ws ys e (telling_of (drop k xs)) (telling_of (drop (k + 7) ys)) _ _ wide (as_long ∙ long) m (subst (λ j. Retold j ws ys (telling_of (drop k xs)) (telling_of (drop (k + 7) ys))) is r) (matches_kept a.long s₁ s₂ _ _ keeps' l) i
-
-pub grown_on : (a b d : ℕ) (s t u : List ℕ) → Grown a b s t → Grown b d t u → Grown a d s u
-grown_on a b d s t u g h =
-    let i = g.above in
-    let j = h.above in
-    record {
-      above = omega arith;
-      within = h.within;
-      front = sym (take-take a b u i) ∙ ap (take a) h.front ∙ take-take a b t i ∙ g.front;
-      rest = h.rest ∙ drop_from b d t s j g.rest;
-    }
-  where
-    drop_from : (b d : ℕ) (t s : List ℕ) → b ≤ d → drop b t ≡ drop b s → drop d t ≡ drop d s
-    drop_from b d t s l e =
-        let q : d ≡ b + (d - b) = omega arith in
-        rw q (sym (drop-drop (d - b) b t) ∙ ap (drop (d - b)) e ∙ drop-drop (d - b) b s)
-
-pub keeps_on : (s t u : List ℕ) → Keeps s t → Keeps t u → Keeps s u
-keeps_on s t u f g a x bs h k = let r = f a x bs h k in g a x bs r.0 r.1

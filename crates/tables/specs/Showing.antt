@@ -1,5 +1,5 @@
 -- What slots in lent words, with the store of their trails, show: the entries of a table.
-use Rattle.std.specs.Prelude.{◌≡◌, ℕ, ◌+◌, ◌*◌, ◌<◌, ◌≤◌, Bool, List, length, take, drop}
+use Rattle.std.specs.Prelude.{◌≡◌, ℕ, ◌+◌, ◌*◌, ◌<◌, Bool, List, length, take, drop}
 use Rattle.cycles.specs.Code.{pick, Cache}
 use Rattle.machine.specs.Cells.{state_of, TidyCells}
 use Rattle.trails.specs.declared.telling.Telling.{Telling}
@@ -69,13 +69,6 @@ pub record Put (at : ℕ) (ws ws' : List ℕ) (t : Telling) : Type 0 where
   pub before : take at ws' ≡ take at ws
   pub telling : telling_of (drop at ws') ≡ t
   pub behind : drop (at + 7) ws' ≡ drop (at + 7) ws
-
--- a store grows from one top to another: what was below stays, and what lies above is as it was
-pub record Grown (top top' : ℕ) (s s' : List ℕ) : Type 0 where
-  pub above : top ≤ top'
-  pub within : top' ≤ length s'
-  pub front : take top s' ≡ take top s
-  pub rest : drop top' s' ≡ drop top' s
 
 -- a slot of w cells with these tellings in place of its own
 pub record Retold (w : ℕ) (ws ws' : List ℕ) (long short : Telling) : Type 0 where

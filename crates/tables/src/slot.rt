@@ -1,15 +1,15 @@
 ghost use Rattle.std.specs.Prelude.{◌≡◌, ℕ, ◌+◌, ◌*◌, ◌<◌, ◌≤◌, List, [], ◌∷◌, length, take, drop};
 ghost use Rattle.cycles.specs.Reading.{cache as cache_of};
 ghost use Rattle.tables.specs.Best.{Both, Val, plus, start, told};
-ghost use Rattle.tables.specs.Showing.{Grown, Matches, Notable, Put, Retold, Shown, as_good, better_of, cells as cells_of, firsts_of, later, width as width_of};
+ghost use Rattle.tables.specs.Showing.{Matches, Notable, Put, Retold, Shown, as_good, better_of, cells as cells_of, firsts_of, later, width as width_of};
 ghost use Rattle.tables.specs.Tables.{Entry, chose, touched};
-ghost use Rattle.trails.specs.Trails.{Keeps, telling_of};
+ghost use Rattle.trails.specs.Stores.{Grown, nodes};
+ghost use Rattle.trails.specs.Trails.{telling_of};
 
 use cycles::geometry::Geometry;
 use machine::cache::{clear, touch};
-use trails::telling::{read, write};
-use trails::trail::note;
-use trails::{ChoiceNumber, Telling};
+use trails::telling::{halves, joined};
+use trails::{ChoiceNumber, Store, Telling};
 
 // The words of a telling.
 const TELLING: usize = 7;
@@ -59,9 +59,8 @@ fn add_cycles(slot: &mut [u32], at: usize, cycles: u32)
     requires room { (telling_of (drop at slot.old)).time + cycles < 18446744073709551616 }
     ensures { Put at slot.old slot.new (later cycles (telling_of (drop at slot.old))) }
 {
-    let time = slot[at] as u64 + 4294967296 * slot[at + 1] as u64 + cycles as u64;
-    slot[at] = (time % 4294967296) as u32;
-    slot[at + 1] = (time / 4294967296) as u32;
+    let time = joined(slot[at], slot[at + 1]) + u64::from(cycles);
+    (slot[at], slot[at + 1]) = halves(time);
 }
 
 // Writes a telling at a place.
@@ -69,7 +68,7 @@ fn put_telling(slot: &mut [u32], at: usize, telling: Telling)
     requires { at + 7 ≤ length slot.old }
     ensures { Put at slot.old slot.new telling }
 {
-    write(&mut slot[at..at + TELLING], telling);
+    telling.write(&mut slot[at..at + TELLING]);
 }
 
 // The telling at a place.
@@ -77,7 +76,7 @@ pub fn telling_at(slot: &[u32], at: usize) -> Telling
     requires { at + 7 ≤ length slot.now }
     ensures { result ≡ telling_of (drop at slot.now) }
 {
-    read(&slot[at..])
+    Telling::read(&slot[at..])
 }
 
 // Keeps the better of the telling at a place and another.
@@ -90,27 +89,17 @@ fn keep_better(slot: &mut [u32], at: usize, extreme: Extreme, telling: Telling)
     }
 }
 
-// Notes a choice in the telling at a place; returns the new top of the store.
-fn note_at(
-    slot: &mut [u32],
-    at: usize,
-    store: &mut [u32],
-    top: usize,
-    first: ChoiceNumber,
-    choice: bool,
-) -> usize
+// Notes a choice in the telling at a place.
+fn note_at(slot: &mut [u32], at: usize, store: &mut Store<'_>, first: ChoiceNumber, choice: bool)
     requires fits { at + 7 ≤ length slot.old }
-    requires within { top ≤ length store.old }
-    requires notable { Notable first.0 (take top store.old) (telling_of (drop at slot.old)) }
+    requires notable { Notable first.0 (nodes store.old) (telling_of (drop at slot.old)) }
     ensures put { Put at slot.old slot.new (telling_of (drop at slot.new)) }
-    ensures grown { Grown top result store.old store.new }
-    ensures keeps { Keeps (take top store.old) (take result store.new) }
-    ensures matches { (v : Val) → Matches first.0 (take top store.old) (telling_of (drop at slot.old)) v → Matches first.0 (take result store.new) (telling_of (drop at slot.new)) (plus v 0 (choice ∷ [])) }
+    ensures grown { Grown store.old store.new }
+    ensures matches { (v : Val) → Matches first.0 (nodes store.old) (telling_of (drop at slot.old)) v → Matches first.0 (nodes store.new) (telling_of (drop at slot.new)) (plus v 0 (choice ∷ [])) }
 {
     let mut telling = telling_at(slot, at);
-    let end = note(&mut telling, store, top, first, choice);
+    telling.note(store, first, choice);
     put_telling(slot, at, telling);
-    end
 }
 
 // Writes where every play begins: the empty cache, and tellings of no cycles and no choice.
@@ -153,24 +142,21 @@ pub fn touch_slot(slot: &mut [u32], cache: Geometry, address: u32)
     spend(slot, cells(cache), touched.cycles);
 }
 
-// Notes a choice in both tellings of a slot; returns the new top of the store.
+// Notes a choice in both tellings of a slot.
 pub fn note_slot(
     slot: &mut [u32],
     cache: Geometry,
-    store: &mut [u32],
-    top: usize,
+    store: &mut Store<'_>,
     firsts: Firsts,
     choice: bool,
-) -> usize
+)
     requires fits { width_of (cache_of cache) ≤ length slot.old }
-    requires within { top ≤ length store.old }
-    requires long { Notable firsts.long.0 (take top store.old) (telling_of (drop (cells_of (cache_of cache)) slot.old)) }
-    requires short { Notable firsts.short.0 (take top store.old) (telling_of (drop (cells_of (cache_of cache) + 7) slot.old)) }
-    ensures grown { Grown top result store.old store.new }
-    ensures keeps { Keeps (take top store.old) (take result store.new) }
-    ensures shows { (e : Entry (Both Val)) → Shown (cache_of cache) (firsts_of firsts) (take top store.old) slot.old e → Shown (cache_of cache) (firsts_of firsts) (take result store.new) slot.new (chose told choice e) }
+    requires long { Notable firsts.long.0 (nodes store.old) (telling_of (drop (cells_of (cache_of cache)) slot.old)) }
+    requires short { Notable firsts.short.0 (nodes store.old) (telling_of (drop (cells_of (cache_of cache) + 7) slot.old)) }
+    ensures grown { Grown store.old store.new }
+    ensures shows { (e : Entry (Both Val)) → Shown (cache_of cache) (firsts_of firsts) (nodes store.old) slot.old e → Shown (cache_of cache) (firsts_of firsts) (nodes store.new) slot.new (chose told choice e) }
 {
     let cells = cells(cache);
-    let middle = note_at(slot, cells, store, top, firsts.long, choice);
-    note_at(slot, cells + TELLING, store, middle, firsts.short, choice)
+    note_at(slot, cells, store, firsts.long, choice);
+    note_at(slot, cells + TELLING, store, firsts.short, choice);
 }

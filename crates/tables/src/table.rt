@@ -1,13 +1,14 @@
 ghost use Rattle.std.specs.Prelude.{◌≡◌, ℕ, ◌+◌, ◌*◌, ◌<◌, ◌≤◌, List, ◌++◌, map, length, take, drop, MatchOption};
 ghost use Rattle.cycles.specs.Reading.{cache as cache_of};
 ghost use Rattle.tables.specs.Best.{Both, Table, Val, told};
-ghost use Rattle.tables.specs.Showing.{Grown, Showing, Shown, Shows, Spendable, cells as cells_of, firsts_of, width as width_of};
+ghost use Rattle.tables.specs.Showing.{Showing, Shown, Shows, Spendable, cells as cells_of, firsts_of, width as width_of};
 ghost use Rattle.tables.specs.Slots.{Absent, Found, chunk};
 ghost use Rattle.tables.specs.Tables.{Entry, chose, gather as gathered, join as joined, spent, touched};
-ghost use Rattle.trails.specs.Trails.{Keeps};
+ghost use Rattle.trails.specs.Stores.{Grown, nodes};
 
 use crate::slot::{Firsts, cells, improve, note_slot, spend, telling_at, touch_slot, width};
 use cycles::geometry::Geometry;
+use trails::Store;
 
 // The number of a state in a table, from 0.
 #[derive(Clone, Copy)]
@@ -41,37 +42,25 @@ pub fn touch_all(slots: &mut [u32], cache: Geometry, n: usize, address: u32)
     }
 }
 
-// Notes a choice in each of the first n slots; returns the new top of the store.
+// Notes a choice in each of the first n slots.
 pub fn note_all(
     slots: &mut [u32],
     cache: Geometry,
     n: usize,
-    store: &mut [u32],
-    top: usize,
+    store: &mut Store<'_>,
     firsts: Firsts,
     choice: bool,
-) -> usize
+)
     requires fits { width_of (cache_of cache) * n ≤ length slots.old }
-    requires within { top ≤ length store.old }
-    requires showing { Showing (cache_of cache) (firsts_of firsts) (take top store.old) n slots.old 1 }
-    ensures grown { Grown top result store.old store.new }
-    ensures keeps { Keeps (take top store.old) (take result store.new) }
-    ensures shows { (T : Table) → Shows (cache_of cache) (firsts_of firsts) (take top store.old) n slots.old T → Shows (cache_of cache) (firsts_of firsts) (take result store.new) n slots.new (map (chose told choice) T) }
+    requires showing { Showing (cache_of cache) (firsts_of firsts) (nodes store.old) n slots.old 1 }
+    ensures grown { Grown store.old store.new }
+    ensures shows { (T : Table) → Shows (cache_of cache) (firsts_of firsts) (nodes store.old) n slots.old T → Shows (cache_of cache) (firsts_of firsts) (nodes store.new) n slots.new (map (chose told choice) T) }
 {
     let width = width(cache);
-    let mut end = top;
     for j in 0..n {
         let at = width * j;
-        end = note_slot(
-            &mut slots[at..at + width],
-            cache,
-            store,
-            end,
-            firsts,
-            choice,
-        );
+        note_slot(&mut slots[at..at + width], cache, store, firsts, choice);
     }
-    end
 }
 
 // The first of m slots with the state of the i-th, which stands behind them.

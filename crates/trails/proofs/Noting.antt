@@ -1,7 +1,6 @@
 -- What becomes of a telling as a choice is noted: it is only counted, or goes into the head, or into a new head.
-use Rattle.std.proofs.Common.{◌≡◌, ℕ, zero, suc, ◌+◌, ◌-◌, ◌*◌, ◌%◌, ◌<◌, ◌≤◌, Bool, true, false, ◌⊎◌, List, [], ◌∷◌, ◌++◌, length, take, drop, sym, refl, ap, ◌∙◌, inl, inr, ⊎_elim, append_assoc, pow-suc, arith, length-append, length-drop}
-use Rattle.std.proofs.lemmas.List.{take_all, take-append-le, drop-append-le, length_push}
-use Rattle.std.proofs.lemmas.Bool.{cases_lt}
+use Rattle.std.proofs.Common.{◌≡◌, ℕ, ◌+◌, ◌-◌, ◌*◌, ◌%◌, ◌<◌, ◌≤◌, Bool, true, false, ◌⊎◌, List, [], ◌∷◌, ◌++◌, length, take, drop, sym, refl, ap, ◌∙◌, inl, append_assoc, pow-suc, arith, length-append, length-drop}
+use Rattle.std.proofs.lemmas.List.{take_all, drop-append-le, length_push}
 use Rattle.trails.specs.declared.telling.Telling.{Telling}
 use Rattle.trails.specs.Trails.{Lies, Sound, Tells, Whole, added, bit, bits_of, chain, full, held, none, record_of, shelved}
 use Rattle.trails.proofs.Nodes.{bits_none, bits_push, chain_node, full_more, full_same, lies_node}
@@ -18,18 +17,10 @@ none_tells a s = record { count = refl; front = refl }
 
 -- one telling over one store becomes another over another as a choice is noted
 pub record Noted (a : ℕ) (s s' : List ℕ) (t t' : Telling) (b : Bool) : Type 0 where
-  pub time : t'.time ≡ t.time
-  pub counts : t'.count ≡ t.count + 1
   pub sound : Sound a s' t'
   pub tells : (bs : List Bool) → Tells a s t bs → Tells a s' t' (bs ++ (b ∷ []))
 
 -- one choice more, recorded or not
-
-front_push : (m a : ℕ) (bs cs : List Bool) → m ≤ length bs - a → take m (drop a (bs ++ cs)) ≡ take m (drop a bs)
-front_push zero a bs cs h = refl
-front_push (suc m) a bs cs h =
-    let l : suc m ≤ length (drop a bs) = simp length-drop h in
-    rw (drop-append-le a bs cs (omega arith)) (take-append-le (suc m) (drop a bs) cs l)
 
 all_push : (m a : ℕ) (bs : List Bool) (b : Bool) → a ≤ length bs → length bs - a ≡ m → take (m + 1) (drop a (bs ++ (b ∷ []))) ≡ take m (drop a bs) ++ (b ∷ [])
 all_push m a bs b h e =
@@ -50,19 +41,6 @@ recorded_tells a s s' t t' b whole n m r bs w =
 abbrev pub counted : Telling → Telling
 counted t = record { time = t.time; count = t.count + 1; parent = t.parent; head = t.head; recorded = t.recorded }
 
-pub counted_noted : (a : ℕ) (s : List ℕ) (t : Telling) (b : Bool) → Sound a s t → (t.recorded ≡ t.count + 1 - a) ⊎ ((32 ≤ t.recorded) × (t.recorded % 32 ≡ 0)) → Noted a s s t (counted t) b
-counted_noted a s t b h e =
-    record {
-      time = refl;
-      counts = refl;
-      sound = record { few = h.few; within = omega (arith, h.within); small = h.small; lies = h.lies; all = e };
-      tells = λ bs w. record { count = simp length_push (ap (λ n. n + 1) w.count); front = w.front ∙ sym (front_push t.recorded a bs (b ∷ []) (rw w.count at h.within)) };
-    }
-
--- a record that was not whole, or that begins later, stays as it was
-pub stopped : (a : ℕ) (s : List ℕ) (t : Telling) → Sound a s t → (Whole a t → ⊥) → (t.recorded ≡ t.count + 1 - a) ⊎ ((32 ≤ t.recorded) × (t.recorded % 32 ≡ 0))
-stopped a s t h n = ⊎_elim (λ l. inl (omega (arith, h.within))) (λ l. ⊎_elim (λ e. absurd (n (l, sym e))) (λ w. inr w) h.all) (cases_lt t.count a)
-
 -- into the head
 
 bit_small : (b : Bool) → bit b ≤ 1
@@ -75,26 +53,22 @@ added_noted a s t b h whole free =
     let p = pow-suc 2 (held t.recorded) in
     let r : record_of s (added t b) ≡ record_of s t ++ (b ∷ []) = rw (f.1, f.0, bits_push (held t.recorded) t.head b) (sym (append_assoc (chain s (full t.recorded) t.parent) (bits_of (held t.recorded) t.head) (b ∷ []))) in
     record {
-      time = refl;
-      counts = refl;
       sound = record { few = omega (arith, f.2 h.few); within = omega (arith, whole.1); small = rw f.1 (omega (arith, bit_small b, h.small)); lies = rw f.0 h.lies; all = inl (omega (arith, whole.0, whole.1)) };
       tells = recorded_tells a s s t (added (counted t) b) b whole refl refl r;
     }
 
 -- into a new head
 
-pub shelved_noted : (a : ℕ) (s : List ℕ) (t : Telling) (b : Bool) → Sound a s t → Whole a t → 0 < t.recorded → t.recorded % 32 ≡ 0 → t.recorded < 4294967264 → Noted a s (s ++ (t.parent ∷ (t.head ∷ []))) t (added (shelved (length s) (counted t)) b) b
-shelved_noted a s t b h whole some full-head few =
+pub shelved_noted : (a : ℕ) (s : List ℕ) (p : ℕ) (t : Telling) (b : Bool) → p ≡ length s → Sound a s t → Whole a t → 0 < t.recorded → t.recorded % 32 ≡ 0 → t.recorded < 4294967264 → Noted a s (s ++ (t.parent ∷ (t.head ∷ []))) t (added (shelved p (counted t)) b) b
+shelved_noted a s p t b place h whole some full-head few =
     let k = full t.recorded in
     let s' = s ++ (t.parent ∷ (t.head ∷ [])) in
-    let t' = added (shelved (length s) (counted t)) b in
+    let t' = added (shelved p (counted t)) b in
     let f = full_more t.recorded some full-head in
     let g : record_of s t ≡ chain s k t.parent ++ bits_of 32 t.head = rw f.1 in
     let one : bits_of 1 (0 * 2 + bit b) ≡ b ∷ [] = bits_push 0 0 b ∙ rw (bits_none 0) in
-    let r : record_of s' t' ≡ record_of s t ++ (b ∷ []) = rw (f.2, f.0, one, chain_node s k t.parent t.head h.lies, ← g) in
+    let r : record_of s' t' ≡ record_of s t ++ (b ∷ []) = rw (f.2, f.0, one, place, chain_node s k t.parent t.head h.lies, ← g) in
     record {
-      time = refl;
-      counts = refl;
-      sound = record { few = omega arith; within = omega (arith, whole.1); small = rw f.2 (omega (arith, bit_small b)); lies = rw f.0 (lies_node s k t.parent t.head h.lies); all = inl (omega (arith, whole.0, whole.1)) };
+      sound = record { few = omega arith; within = omega (arith, whole.1); small = rw f.2 (omega (arith, bit_small b)); lies = rw (f.0, place) (lies_node s k t.parent t.head h.lies); all = inl (omega (arith, whole.0, whole.1)) };
       tells = recorded_tells a s s' t t' b whole refl refl r;
     }

@@ -1,7 +1,6 @@
 -- The last choice of a record, and the ones before it.
-use Rattle.std.proofs.Common.{◌≡◌, ℕ, suc, ◌+◌, ◌-◌, ◌/◌, ◌%◌, ◌<◌, ◌≤◌, Bool, eqb, ◌⊎◌, List, [], ◌∷◌, ◌++◌, map, length, get_or, drop, set, sym, refl, ap, ◌∙◌, append_assoc, add-one, arith}
-use Rattle.std.proofs.lemmas.List.{drop-set, map_push}
-use Rattle.trails.specs.Trails.{Lies, bit, bits_of, chain, full, held}
+use Rattle.std.proofs.Common.{◌≡◌, ℕ, suc, ◌+◌, ◌-◌, ◌/◌, ◌%◌, ◌<◌, ◌≤◌, Bool, eqb, ◌⊎◌, List, [], ◌∷◌, ◌++◌, length, get_or, sym, refl, append_assoc, add-one, arith}
+use Rattle.trails.specs.Trails.{Lies, bits_of, chain, full, held}
 use Rattle.trails.proofs.Nodes.{bits_none, bits_step, chain_step, full_more, full_same, lies_step}
 
 -- m choices, the last of them in the head h, which stands behind the node at p
@@ -19,9 +18,6 @@ module _ (s : List ℕ) (n p h : ℕ) (some : 0 < n) (free : (n - 1 ≡ 0) ⊎ (
       let e : n - 1 + 1 ≡ n = omega arith in
       let f = full_same (n - 1) free in
       (rw e at f.0, rw e at f.1)
-
-  pub lies_head : Lies s (full n) p → Lies s (full (n - 1)) p
-  lies_head l = rw same.0 at l
 
   pub last_head : said s n p h ≡ said s (n - 1) p (h / 2) ++ (eqb (h % 2) 1 ∷ [])
   last_head = rw (same.1, same.0, bits_step) (sym (append_assoc (chain s (full (n - 1)) p) _ _))
@@ -45,11 +41,3 @@ module _ (s : List ℕ) (n p h : ℕ) (some : 0 < n - 1) (filled : (n - 1) % 32 
 
   pub last_node : said s n p h ≡ said s (n - 1) (get_or s p 0) (get_or s (p + 1) 0) ++ (eqb (h % 2) 1 ∷ [])
   last_node = rw (more.2, more.0, bits_step, bits_none, chain_step, more.1, add-one)
-
--- one byte more, in front of what is written
-pub tell_again : (r r' : List Bool) (b : Bool) (out ys : List ℕ) (at : ℕ) → 0 < at → at ≤ length out → r ≡ r' ++ (b ∷ []) → map bit r ++ drop at out ≡ ys → map bit r' ++ drop (at - 1) (set out (at - 1) (bit b)) ≡ ys
-tell_again r r' b out ys at some l e h =
-    let z : at - 1 + 1 ≡ at = omega arith in
-    let d : drop (at - 1) (set out (at - 1) (bit b)) ≡ bit b ∷ drop at out = drop-set out (at - 1) (bit b) (omega arith) ∙ rw z in
-    let m : map bit r ≡ map bit r' ++ (bit b ∷ []) = ap (map bit) e ∙ map_push bit r' b in
-    rw d (sym (append_assoc (map bit r') (bit b ∷ []) (drop at out)) ∙ rw m at h)

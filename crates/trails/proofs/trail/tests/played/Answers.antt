@@ -1,8 +1,10 @@
-use Rattle.std.proofs.Common.{arith}
+use Rattle.std.proofs.Common.{rules, subst}
+use Rattle.trails.specs.Trails.{Lies, full}
 use Rattle.trails.proofs.Fronts.{sound_within}
 use Rattle.trails.proofs.trail.tests.played.Goals as goal
 
-pub returns : goal.returns
-returns c =
-    let s = sound_within c.args.first.0 c.loop-number.top c.loop-number.store c.loop-number.telling c.loop-number.invariant.2 in
-    record { few = omega (arith, s.within, c.loop-number.invariant.1); lies = s.lies }
+pub returns-clause-lies : goal.returns-clause-lies
+returns-clause-lies c =
+    let s = sound_within c.args.first.0 c.loop-number.nodes.top c.loop-number.nodes.words.now c.loop-number.telling c.loop-number.invariant.2 in
+    let t = c.loop-number.telling in
+    subst (λ z. Lies z (full t.recorded) t.parent) (search rules) s.lies

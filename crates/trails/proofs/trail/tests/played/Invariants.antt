@@ -1,6 +1,7 @@
-use Rattle.std.proofs.Common.{◌≡◌, ◌≤◌, length, take}
+use Rattle.std.proofs.Common.{◌≡◌}
+use Rattle.trails.specs.Stores.{nodes}
 use Rattle.trails.specs.Trails.{Sound}
 use Rattle.trails.proofs.trail.tests.played.Given as goal
 
 abbrev pub invariant-loop-number : goal.invariant-loop-number
-invariant-loop-number l = (l.top ≤ length l.store) × (l.telling.count ≡ l.number) × Sound l.first.0 (take l.top l.store) l.telling
+invariant-loop-number l = (l.nodes.words.ghost_name ≡ l.initial.nodes.words.ghost_name) × (l.telling.count ≡ l.number) × Sound l.first.0 (nodes l.nodes) l.telling
