@@ -1,4 +1,4 @@
-use Rattle.std.proofs.Common.{◌≡◌, ℕ, ◌+◌, ◌-◌, ◌*◌, ◌%◌, ◌<◌, ◌≤◌, refl, ◌∙◌, mod-lt, arith, rules}
+use Rattle.std.proofs.Common.{◌≡◌, ℕ, ◌+◌, ◌-◌, ◌*◌, ◌%◌, ◌<◌, ◌≤◌, refl, ◌∙◌, mod-lt, arith}
 use Rattle.cycles.specs.Code.{Cache, set_of}
 use Rattle.cycles.specs.Reading.{cache}
 use Rattle.machine.proofs.CellLaws.{within, outcome_at, hit_at, after_at, behind_at}

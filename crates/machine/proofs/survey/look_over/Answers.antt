@@ -1,9 +1,7 @@
-use Rattle.std.proofs.Common.{◌≡◌, ℕ, ◌+◌, Bool, List, ◌++◌, length, drop, sym, subst, arith, length-drop}
+use Rattle.std.proofs.Common.{◌≡◌, ℕ, Bool, List, drop, sym, subst, arith, length-drop}
 use Rattle.cycles.specs.Code.{P}
-use Rattle.cycles.specs.Rows.{row}
-use Rattle.machine.specs.Playing.{still}
 use Rattle.cycles.proofs.Fits.{fits}
-use Rattle.machine.proofs.Surveys.{Pending, begun, gone_on, gone_over, some_node, few_pending, parts_few}
+use Rattle.machine.proofs.Surveys.{Pending, begun, gone_on, some_node, few_pending, parts_few}
 use Rattle.machine.proofs.survey.look_over.Goals as goal
 
 -- the same by equal numbers
@@ -29,7 +27,3 @@ pub node_at-node-requires : goal.node_at-node-requires
 node_at-node-requires c =
     let x = some_node _ _ _ _ _ _ _ c.loop-pending-test.true (c.loop-pending.invariant.1 c.requires.p c.requires.rest c.requires.is) in
     record { p = x.0; rest = x.1; is = x.2; within = c.loop-pending.invariant.0 }
-
--- what is known at the end of the loop, of whatever program stands at the start
-over : (c : goal.After-loop-pending) (p : P) (rest : List ℕ) → drop c.args.start c.args.words.now ≡ row p ++ rest → (c.loop-pending.at ≡ c.args.start + length (row p)) × (c.loop-pending.quiet ≡ still p)
-over c p rest e = gone_over c.args.words.now c.args.start c.loop-pending.at c.loop-pending.quiet c.loop-pending.pending p rest (omega arith) (c.loop-pending.invariant.1 p rest e)

@@ -1,7 +1,7 @@
 use Rattle.std.proofs.Common.{length, sym, ◌∙◌, arith}
 use Rattle.std.proofs.lemmas.List.{length_push}
-use Rattle.std.proofs.lemmas.Slice.Zip.{zip_turn, zip_end}
-use Rattle.machine.proofs.Addresses.{below_at, small_at, place_more, place_all, step_bound}
+use Rattle.std.proofs.lemmas.Slice.Zip.{zip_turn}
+use Rattle.machine.proofs.Addresses.{below_at, small_at, place_more, step_bound}
 use Rattle.machine.proofs.rounds.Rounds.address.Goals as goal
 
 pub overflow_mul-address : goal.overflow_mul-address
