@@ -12,45 +12,39 @@ use trails::telling::{halves, joined};
 use trails::{ChoiceNumber, Store, Telling};
 
 // The words of a telling.
-const TELLING: usize = 7;
+pub const TELLING: usize = 7;
 
 // Which time is sought.
-#[derive(Clone, Copy)]
+#[derive(Clone, Copy, PartialEq, Eq, Debug)]
 pub enum Extreme {
     Longest,
     Shortest,
 }
 
+impl Extreme {
+    // Whether a telling is at least as good as another; of two with the same time the one with fewer choices is the better.
+    pub fn is_as_good(self, telling: Telling, other: Telling) -> bool
+        ensures { result ≡ as_good self telling other }
+    {
+        match self {
+            Extreme::Longest => (other.time, telling.count) <= (telling.time, other.count),
+            Extreme::Shortest => (telling.time, telling.count) <= (other.time, other.count),
+        }
+    }
+}
+
 // The first choices that are recorded: in the tellings of the longest times, and of the shortest.
-#[derive(Clone, Copy)]
+#[derive(Clone, Copy, PartialEq, Eq, Debug)]
 pub struct Firsts {
     pub long: ChoiceNumber,
     pub short: ChoiceNumber,
-}
-
-// How many words the cells of a state take.
-pub fn cells(cache: Geometry) -> usize
-    ensures { result ≡ cells_of (cache_of cache) }
-{
-    cache.sets as usize * cache.ways as usize
 }
 
 // How many words a slot takes: the cells, and the tellings of a longest and of a shortest time.
 pub fn width(cache: Geometry) -> usize
     ensures { result ≡ width_of (cache_of cache) }
 {
-    cells(cache) + 2 * TELLING
-}
-
-// Whether a telling is at least as good as another; of two with the same time the one with fewer choices is the better.
-pub fn is_as_good(extreme: Extreme, telling: Telling, other: Telling) -> bool
-    ensures { result ≡ as_good extreme telling other }
-{
-    let ahead = match extreme {
-        Extreme::Longest => other.time < telling.time,
-        Extreme::Shortest => telling.time < other.time,
-    };
-    ahead | ((telling.time == other.time) & (telling.count <= other.count))
+    cache.cells() + 2 * TELLING
 }
 
 // Adds cycles to the time of the telling at a place, which is its first two words.
@@ -84,7 +78,7 @@ fn keep_better(slot: &mut [u32], at: usize, extreme: Extreme, telling: Telling)
     requires { at + 7 ≤ length slot.old }
     ensures { Put at slot.old slot.new (better_of extreme (telling_of (drop at slot.old)) telling) }
 {
-    if !is_as_good(extreme, telling_at(slot, at), telling) {
+    if !extreme.is_as_good(telling_at(slot, at), telling) {
         put_telling(slot, at, telling);
     }
 }
@@ -139,7 +133,7 @@ pub fn touch_slot(slot: &mut [u32], cache: Geometry, address: u32)
     ensures { (a : Both ℕ) (s : List ℕ) (e : Entry (Both Val)) → Shown (cache_of cache) a s slot.old e → Shown (cache_of cache) a s slot.new (touched told (cache_of cache) address e) }
 {
     let touched = touch(slot, cache, address);
-    spend(slot, cells(cache), touched.cycles);
+    spend(slot, cache.cells(), touched.cycles);
 }
 
 // Notes a choice in both tellings of a slot.
@@ -156,7 +150,7 @@ pub fn note_slot(
     ensures grown { Grown store.old store.new }
     ensures shows { (e : Entry (Both Val)) → Shown (cache_of cache) (firsts_of firsts) (nodes store.old) slot.old e → Shown (cache_of cache) (firsts_of firsts) (nodes store.new) slot.new (chose told choice e) }
 {
-    let cells = cells(cache);
+    let cells = cache.cells();
     note_at(slot, cells, store, firsts.long, choice);
     note_at(slot, cells + TELLING, store, firsts.short, choice);
 }

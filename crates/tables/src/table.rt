@@ -6,12 +6,12 @@ ghost use Rattle.tables.specs.Slots.{Absent, Found, chunk};
 ghost use Rattle.tables.specs.Tables.{Entry, chose, gather as gathered, join as joined, spent, touched};
 ghost use Rattle.trails.specs.Stores.{Grown, nodes};
 
-use crate::slot::{Firsts, cells, improve, note_slot, spend, telling_at, touch_slot, width};
+use crate::slot::{Firsts, TELLING, improve, note_slot, spend, telling_at, touch_slot, width};
 use cycles::geometry::Geometry;
 use trails::Store;
 
 // The number of a state in a table, from 0.
-#[derive(Clone, Copy)]
+#[derive(Clone, Copy, PartialEq, Eq, Debug)]
 pub struct StateIndex(pub usize);
 
 // Spends cycles in each of the first n slots.
@@ -24,7 +24,7 @@ pub fn spend_all(slots: &mut [u32], cache: Geometry, n: usize, cycles: u32)
     let width = width(cache);
     for k in 0..n {
         let at = width * k;
-        spend(&mut slots[at..at + width], cells(cache), cycles);
+        spend(&mut slots[at..at + width], cache.cells(), cycles);
     }
 }
 
@@ -69,7 +69,7 @@ pub fn find(slots: &[u32], cache: Geometry, m: usize, i: usize) -> Option<StateI
     requires fits { width_of (cache_of cache) * i + width_of (cache_of cache) ≤ length slots.now }
     ensures { MatchOption result (Absent slots.now (width_of (cache_of cache)) m (take (cells_of (cache_of cache)) (drop (width_of (cache_of cache) * i) slots.now))) (λ k. Found slots.now (width_of (cache_of cache)) m (take (cells_of (cache_of cache)) (drop (width_of (cache_of cache) * i) slots.now)) k.0) }
 {
-    let cells = cells(cache);
+    let cells = cache.cells();
     let width = width(cache);
     let want = width * i;
     let mut k = 0;
@@ -98,11 +98,11 @@ fn move_slot(slots: &mut [u32], cache: Geometry, m: usize, i: usize)
     requires fits { width_of (cache_of cache) * i + width_of (cache_of cache) ≤ length slots.old }
     ensures { slots.new ≡ Rattle.tables.specs.Slots.over slots.old (width_of (cache_of cache) * m) (chunk (width_of (cache_of cache)) i slots.old) }
 {
-    let width = width(cache);
-    let to = width * m;
-    let from = width * i;
-    for j in 0..width {
-        slots[to + j] = slots[from + j];
+    if m < i {
+        let width = width(cache);
+        let (front, behind) = slots.split_at_mut(width * i);
+        let at = width * m;
+        front[at..at + width].copy_from_slice(&behind[..width]);
     }
 }
 
@@ -116,10 +116,10 @@ pub fn join(slots: &mut [u32], cache: Geometry, m: usize, i: usize) -> usize
 {
     match find(slots, cache, m, i) {
         Some(found) => {
-            let cells = cells(cache);
+            let cells = cache.cells();
             let width = width(cache);
             let long = telling_at(slots, width * i + cells);
-            let short = telling_at(slots, width * i + cells + 7);
+            let short = telling_at(slots, width * i + cells + TELLING);
             let at = width * found.0;
             improve(&mut slots[at..at + width], cells, long, short);
             m
@@ -152,9 +152,8 @@ pub fn duplicate(slots: &mut [u32], cache: Geometry, n: usize)
     ensures back { take (width_of (cache_of cache) * n) (drop (width_of (cache_of cache) * n) slots.new) ≡ take (width_of (cache_of cache) * n) slots.old }
 {
     let words = width(cache) * n;
-    for j in 0..words {
-        slots[words + j] = slots[j];
-    }
+    let (front, behind) = slots.split_at_mut(words);
+    behind[..words].copy_from_slice(front);
 }
 
 // Brings the m slots behind the first n before them.
