@@ -1,6 +1,6 @@
 -- The address of a touch, step by step, and that it fits.
 use Rattle.std.proofs.Common.{◌≡◌, ℕ, zero, suc, ◌+◌, ◌*◌, ◌<◌, ◌≤◌, true, ltb, List, [], ◌∷◌, length, get_or, take, drop, refl, mul-le-mul, arith}
-use Rattle.std.proofs.lemmas.List.{drop_more, drop_all, get_or-take, length-take-le}
+use Rattle.std.proofs.lemmas.List.{drop_more, get_or-take, length-take-le}
 use Rattle.std.proofs.lemmas.Bool.{and_parts, and_from, ltb-true, lt-ltb}
 use Rattle.cycles.specs.Code.{place}
 use Rattle.cycles.specs.Rows.{small}
@@ -30,9 +30,6 @@ place_more w i d ks at h k m =
     let l : i < length (around at d) = omega (arith, length-take-le d at h) in
     let b = drop_more (around at d) i 0 l in
     rw (a, b, get_or-take d at i 0 m)
-
-pub place_all : (w i : ℕ) (ks rs : List ℕ) → length ks ≤ i → place w (drop i ks) (drop i rs) ≡ w
-place_all w i ks rs h = rw (drop_all i ks h)
 
 -- the most that one step adds
 pub step_bound : (k r : ℕ) → k < 65536 → r < 4096 → k * r ≤ 268365825

@@ -103,18 +103,6 @@ gone_on ws start at q n p rest node b h g = go g.ps g.many g.is g.far g.calm
           calm = ap (λ t. (q && quiet_of node) && t) (stills_append o.ys xs) ∙ and_assoc q (quiet_of node) (stills o.ys && stills xs) ∙ ap (λ t. q && t) (sym (and_assoc (quiet_of node) (stills o.ys) (stills xs)) ∙ ap (λ t. t && stills xs) o.calm) ∙ c;
         }
 
--- nothing more to come
-pub gone_over : (ws : List ℕ) (start at : ℕ) (q : Bool) (n : ℕ) (p : P) (rest : List ℕ) → n ≡ 0 → Pending ws start at q n p rest → (at ≡ start + length (row p)) × (q ≡ still p)
-gone_over ws start at q n p rest z g = go g.ps g.many g.far g.calm
-  where
-    and_true : (b : Bool) → b ≡ (b && true)
-    and_true true = refl
-    and_true false = refl
-
-    go : (ps : List P) → length ps ≡ n → at + length (rows ps) ≡ start + length (row p) → (q && stills ps) ≡ still p → (at ≡ start + length (row p)) × (q ≡ still p)
-    go [] m f c = (omega arith, and_true q ∙ c)
-    go (x ∷ xs) m f c = absurd (omega arith)
-
 -- a node stands wherever a program is still to come
 pub some_node : (ws : List ℕ) (start at : ℕ) (q : Bool) (n : ℕ) (p : P) (rest : List ℕ) → 0 < n → Pending ws start at q n p rest → (x : P) × (r : List ℕ) × (drop at ws ≡ row x ++ r)
 some_node ws start at q n p rest h g = go g.ps g.many g.is

@@ -1,5 +1,5 @@
 -- The first n slots changed one after the other, and what they show then.
-use Rattle.std.proofs.Common.{◌≡◌, ℕ, ◌+◌, ◌-◌, ◌*◌, ◌<◌, ◌≤◌, Bool, List, map, length, take, drop, sym, refl, ap, ◌∙◌, subst, subst₂, mul-suc, add-one, arith}
+use Rattle.std.proofs.Common.{◌≡◌, ℕ, ◌+◌, ◌-◌, ◌*◌, ◌<◌, ◌≤◌, Bool, List, map, length, take, drop, sym, refl, ap, ◌∙◌, subst, mul-suc, add-one, arith}
 use borrow.Rule.Slice.PartMut.{put_mid}
 use Rattle.std.proofs.lemmas.List.{drop-drop}
 use Rattle.cycles.specs.Code.{Cache}
@@ -9,7 +9,7 @@ use Rattle.trails.specs.Trails.{Keeps, telling_of}
 use Rattle.trails.proofs.Fronts.{grown_on}
 use Rattle.tables.specs.Best.{Val, Both, Table, told, Has, first, later}
 use Rattle.tables.specs.Each.{Each, At, here, there}
-use Rattle.tables.specs.Showing.{cells, width, Shown, Shows, Showing, Notable, Spendable}
+use Rattle.tables.specs.Showing.{cells, width, Shown, Shows, Showing, Notable}
 use Rattle.tables.specs.Slots.{chunks, chunk, over}
 use Rattle.tables.specs.Tables.{Entry, chose}
 use Rattle.tables.proofs.Chunks.{within, length_chunk, length_chunks, chunk_at, chunks_set, put_over, drop_beyond}
@@ -49,9 +49,6 @@ module _ (c : Cache) (n k w : ℕ) (ys : List ℕ) (wide : w ≡ width c) (less 
   -- as it was at first
   pub part_is : (xs : List ℕ) → Rest (width c) k xs ys → part w k ys ≡ chunk (width c) k xs
   part_is xs rest = part_chunk ∙ ap (take (width c)) rest
-
-  pub part_room : (xs : List ℕ) (v : ℕ) → v ≡ cells c → Rest (width c) k xs ys → Spendable c n xs → ((telling_of (drop v (part w k ys))).time + 65535 < 18446744073709551616) × ((telling_of (drop (v + 7) (part w k ys))).time + 65535 < 18446744073709551616)
-  part_room xs v e rest s = subst₂ (λ i zs. ((telling_of (drop i zs)).time + 65535 < 18446744073709551616) × ((telling_of (drop (i + 7) zs)).time + 65535 < 18446744073709551616)) (sym e) (sym (part_is xs rest)) (s k less)
 
   -- written
   module _ (new : List ℕ) (long : length new ≡ length (part w k ys)) where

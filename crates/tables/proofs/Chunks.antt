@@ -1,7 +1,7 @@
 -- Slots of lent words: the k-th, the first ones, and one that is written.
 use Rattle.std.proofs.Common.{◌≡◌, ℕ, zero, suc, ◌+◌, ◌-◌, ◌*◌, ◌<◌, ◌≤◌, List, [], ◌∷◌, ◌++◌, length, get_or, take, drop, set, sym, refl, ap, ◌∙◌, subst, append_assoc, suc-add, mul-le-mul_left, zero-add, mul-suc, arith, length-append, length-drop, length-take}
 use borrow.Rule.Slice.PartMut.{put_mid}
-use Rattle.std.proofs.lemmas.List.{drop-drop, take-append-drop, length-take-le, drop_at, take_at, take-append-le, drop-append-le, take-take, take_more_same, get_or-take, get_or-drop, set_at, drop-take, drop-set-add, drop-set-lt, take-set-le, take_more, take_more_set}
+use Rattle.std.proofs.lemmas.List.{drop-drop, take-append-drop, length-take-le, drop_at, take_at, take-append-le, drop-append-le, take-take, take_more_same, get_or-take, get_or-drop, set_at, drop-take}
 use Rattle.tables.specs.Slots.{chunks, chunk, over}
 use Rattle.tables.specs.Each.{At, here, there}
 
@@ -18,9 +18,6 @@ up_to s m i h = mul-le-mul_left s h
 -- the same with a width w that the code computes
 pub fits_to : {w s m i len : ℕ} → w ≡ s → m ≤ i → s * i + s ≤ len → w * m + w ≤ len
 fits_to {s = s} {m = m} {i = i} e h l = let u = up_to s m i h in rw e (omega arith)
-
-pub fits_at : {w s k n len : ℕ} → w ≡ s → k < n → s * n ≤ len → w * k + w ≤ len
-fits_at {s = s} {k = k} {n = n} {len = len} e h l = rw e (within s k n len h l)
 
 pub fits_below : {w s m i k len : ℕ} → w ≡ s → m ≤ i → s * i + s ≤ len → k < m → w * k + w ≤ len
 fits_below e h l less = fits_to e (omega arith) l
@@ -112,40 +109,6 @@ module _ (xs : List ℕ) (a b w : ℕ) (h : b + w ≤ length xs) where
       let m = length-drop a xs in
       let n = length-drop b xs in
       take_more_same (drop a xs) (drop b xs) j 0 (omega arith) (omega arith) s (get_or-drop a xs j 0 ∙ e ∙ sym (get_or-drop b xs j 0))
-
--- j words from b on are copied to a, one after the other
-pub record Copied (a b j : ℕ) (d ys : List ℕ) : Type 0 where
-  pub before : take a ys ≡ take a d
-  pub copied : take j (drop a ys) ≡ take j (drop b d)
-  pub behind : drop (a + j) ys ≡ drop (a + j) d
-
--- a word that is read is as at first, behind what is written or before it
-pub read_behind : {a b j : ℕ} {d ys : List ℕ} → a ≤ b → Copied a b j d ys → get_or ys (b + j) 0 ≡ get_or (drop b d) j 0
-read_behind {a = a} {b = b} {j = j} {d = d} {ys = ys} le p =
-    let i : a + j + (b - a) ≡ b + j = omega arith in
-    ap (λ n. get_or ys n 0) (sym i) ∙ sym (get_or-drop (a + j) ys (b - a) 0) ∙ ap (λ z. get_or z (b - a) 0) p.behind ∙ get_or-drop (a + j) d (b - a) 0 ∙ ap (λ n. get_or d n 0) i ∙ sym (get_or-drop b d j 0)
-
-pub read_before : {a b j : ℕ} {d ys : List ℕ} → j < a → Copied a b j d ys → get_or ys j 0 ≡ get_or d j 0
-read_before {a = a} {j = j} {d = d} {ys = ys} less p = sym (get_or-take a ys j 0 less) ∙ ap (λ z. get_or z j 0) p.before ∙ get_or-take a d j 0 less
-
-pub copied_more : {a b j v : ℕ} {d ys : List ℕ} → a + j < length ys → b + j < length d → v ≡ get_or (drop b d) j 0 → Copied a b j d ys → Copied a b (j + 1) d (set ys (a + j) v)
-copied_more {a = a} {b = b} {j = j} {v = v} {d = d} {ys = ys} l m is p =
-    let x = length-drop a ys in
-    let y = length-drop b d in
-    let e : a + (j + 1) ≡ a + j + 1 = omega arith in
-    record {
-      before = take-set-le a ys (a + j) v (omega arith) ∙ p.before;
-      copied = rw drop-set-add (take_more_set (drop a ys) j v (omega arith) ∙ rw (p.copied, is) (sym (take_more (drop b d) j 0 (omega arith))));
-      behind = rw e (drop-set-lt (a + j + 1) ys (a + j) v (omega arith) ∙ sym (drop-drop 1 (a + j) ys) ∙ ap (drop 1) p.behind ∙ drop-drop 1 (a + j) d);
-    }
-
-pub copied_front : {a b j n : ℕ} {d ys : List ℕ} → n ≤ j → Copied a b j d ys → take n (drop a ys) ≡ take n (drop b d)
-copied_front {a = a} {b = b} {j = j} {n = n} {d = d} {ys = ys} le p = sym (take-take n j (drop a ys) le) ∙ ap (take n) p.copied ∙ take-take n j (drop b d) le
-
-pub copied_all : {a b j s : ℕ} {d ys : List ℕ} → j ≡ s → b + s ≤ length d → Copied a b j d ys → ys ≡ over d a (take s (drop b d))
-copied_all {a = a} {b = b} {j = j} {s = s} {d = d} {ys = ys} e h p =
-    let l : length (take s (drop b d)) ≡ s = simp (length-take, length-drop) (omega arith) in
-    sym (take-append-drop a ys) ∙ rw p.before (ap (λ z. take a d ++ z) (sym (take-append-drop j (drop a ys)) ∙ rw (p.copied, drop-drop, p.behind, e, l)))
 
 -- words that are rotated, and what lies behind them
 pub turned : (xs part last : List ℕ) (a b : ℕ) → part ≡ take (a + b) xs → last ≡ drop a part ++ take a part → last ++ drop (a + b) xs ≡ take b (drop a xs) ++ (take a xs ++ drop (a + b) xs)

@@ -32,9 +32,6 @@ module _ (xs : List ℕ) (a n : ℕ) (h : a + 7 ≤ length xs) where
   abbrev halves : List ℕ
   halves = time % 4294967296 ∷ (time / 4294967296 ∷ [])
 
-  pub time_at : (telling_of (drop a xs)).time ≡ get_or xs a 0 + 4294967296 * get_or xs (a + 1) 0
-  time_at = rw (two_words xs a (omega arith))
-
   new_is : set (set xs a (time % 4294967296)) (a + 1) (time / 4294967296) ≡ over xs a halves
   new_is = pair_over xs a (time % 4294967296) (time / 4294967296) (omega arith)
 

@@ -1,10 +1,12 @@
 ghost use Rattle.std.specs.Prelude.{◌≡◌, ℕ, ◌+◌, ◌*◌, ◌<◌, ◌≤◌, List, ◌++◌, map, length, take, drop, MatchOption};
+ghost use Rattle.cycles.specs.Code.{Cache};
 ghost use Rattle.cycles.specs.Reading.{cache as cache_of};
 ghost use Rattle.tables.specs.Best.{Both, Table, Val, told};
 ghost use Rattle.tables.specs.Showing.{Showing, Shown, Shows, Spendable, cells as cells_of, firsts_of, width as width_of};
 ghost use Rattle.tables.specs.Slots.{Absent, Found, chunk};
 ghost use Rattle.tables.specs.Tables.{Entry, chose, gather as gathered, join as joined, spent, touched};
 ghost use Rattle.trails.specs.Stores.{Grown, nodes};
+ghost use Rattle.trails.specs.Trails.{telling_of};
 
 use crate::slot::{Firsts, TELLING, improve, note_slot, spend, telling_at, touch_slot, width};
 use cycles::geometry::Geometry;
@@ -14,6 +16,59 @@ use trails::Store;
 #[derive(Clone, Copy, PartialEq, Eq, Debug)]
 pub struct StateIndex(pub usize);
 
+// What is done to every slot alike, with room for the cycles of one work or touch.
+trait Change {
+    // What it makes of an entry on a cache.
+    ghost makes: { Self → Cache → Entry (Both Val) → Entry (Both Val) };
+
+    fn change(&self, slot: &mut [u32], cache: Geometry)
+        requires fits { width_of (cache_of cache) ≤ length slot.old }
+        requires long { (telling_of (drop (cells_of (cache_of cache)) slot.old)).time + 65535 < 18446744073709551616 }
+        requires short { (telling_of (drop (cells_of (cache_of cache) + 7) slot.old)).time + 65535 < 18446744073709551616 }
+        ensures { (a : Both ℕ) (s : List ℕ) (e : Entry (Both Val)) → Shown (cache_of cache) a s slot.old e → Shown (cache_of cache) a s slot.new (makes self.now (cache_of cache) e) };
+}
+
+#[derive(Clone, Copy)]
+struct Work {
+    cycles: u32,
+    ghost few: { cycles ≤ 65535 },
+}
+
+impl Change for Work {
+    ghost makes = { λ w c e. spent told w.cycles e };
+
+    fn change(&self, slot: &mut [u32], cache: Geometry) {
+        spend(slot, cache.cells(), self.cycles);
+    }
+}
+
+#[derive(Clone, Copy)]
+struct Touch {
+    address: u32,
+    ghost low: { address < 4294967295 },
+}
+
+impl Change for Touch {
+    ghost makes = { λ t c e. touched told c t.address e };
+
+    fn change(&self, slot: &mut [u32], cache: Geometry) {
+        touch_slot(slot, cache, self.address);
+    }
+}
+
+// Changes each of the first n slots.
+fn change_all<C: Change>(slots: &mut [u32], cache: Geometry, n: usize, change: &C)
+    requires fits { width_of (cache_of cache) * n ≤ length slots.old }
+    requires room { Spendable (cache_of cache) n slots.old }
+    ensures { (a : Both ℕ) (s : List ℕ) (T : Table) → Shows (cache_of cache) a s n slots.old T → Shows (cache_of cache) a s n slots.new (map (C.makes change.now (cache_of cache)) T) }
+{
+    let width = width(cache);
+    for k in 0..n {
+        let at = width * k;
+        change.change(&mut slots[at..at + width], cache);
+    }
+}
+
 // Spends cycles in each of the first n slots.
 pub fn spend_all(slots: &mut [u32], cache: Geometry, n: usize, cycles: u32)
     requires fits { width_of (cache_of cache) * n ≤ length slots.old }
@@ -21,11 +76,7 @@ pub fn spend_all(slots: &mut [u32], cache: Geometry, n: usize, cycles: u32)
     requires room { Spendable (cache_of cache) n slots.old }
     ensures { (a : Both ℕ) (s : List ℕ) (T : Table) → Shows (cache_of cache) a s n slots.old T → Shows (cache_of cache) a s n slots.new (map (spent told cycles) T) }
 {
-    let width = width(cache);
-    for k in 0..n {
-        let at = width * k;
-        spend(&mut slots[at..at + width], cache.cells(), cycles);
-    }
+    change_all(slots, cache, n, &Work { cycles });
 }
 
 // Touches an address in each of the first n slots.
@@ -35,11 +86,7 @@ pub fn touch_all(slots: &mut [u32], cache: Geometry, n: usize, address: u32)
     requires room { Spendable (cache_of cache) n slots.old }
     ensures { (a : Both ℕ) (s : List ℕ) (T : Table) → Shows (cache_of cache) a s n slots.old T → Shows (cache_of cache) a s n slots.new (map (touched told (cache_of cache) address) T) }
 {
-    let width = width(cache);
-    for i in 0..n {
-        let at = width * i;
-        touch_slot(&mut slots[at..at + width], cache, address);
-    }
+    change_all(slots, cache, n, &Touch { address });
 }
 
 // Notes a choice in each of the first n slots.

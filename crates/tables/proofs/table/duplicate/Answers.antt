@@ -1,1 +1,0 @@
-use Rattle.tables.proofs.table.duplicate.Goals as goal

@@ -1,1 +1,0 @@
-use Rattle.tables.proofs.table.move_slot.Goals as goal
