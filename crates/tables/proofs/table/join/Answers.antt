@@ -1,21 +1,8 @@
 use Rattle.std.proofs.Common.{arith}
 use Rattle.cycles.specs.Code.{Cache}
 use Rattle.cycles.specs.Reading.{cache}
-use Rattle.tables.proofs.Chunks.{fits_below}
 use Rattle.tables.proofs.Joining.{joined_at, at_rest, joined_behind, behind_rest}
 use Rattle.tables.proofs.table.join.Goals as goal
-
-pub overflow_mul-at : goal.overflow_mul-at
-overflow_mul-at c = omega (arith, fits_below c.width-width.ensures c.requires.order c.requires.fits c.in-Some.ensures.within)
-
-pub overflow_add-at : goal.overflow_add-at
-overflow_add-at c = omega (arith, fits_below c.width-width.ensures c.requires.order c.requires.fits c.in-Some.ensures.within)
-
-pub offset_bounds-slots-at : goal.offset_bounds-slots-at
-offset_bounds-slots-at c = omega (arith, fits_below c.width-width.ensures c.requires.order c.requires.fits c.in-Some.ensures.within)
-
-pub slice_bounds-improve-end : goal.slice_bounds-improve-end
-slice_bounds-improve-end c = omega (arith, fits_below c.width-width.ensures c.requires.order c.requires.fits c.in-Some.ensures.within)
 
 pub returns-in-Some : goal.returns-in-Some
 returns-in-Some c =
