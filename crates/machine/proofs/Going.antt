@@ -1,5 +1,5 @@
 -- How a play goes through words: on behind the first of two, and to its end.
-use Rattle.std.proofs.Common.{◌≡◌, ℕ, ◌+◌, ◌<◌, ◌≤◌, Bool, true, false, List, [], ◌∷◌, ◌++◌, length, get_or, drop, Some, None, Ok, Option as StdOption, sym, refl, ap, ◌∙◌, subst, append_assoc, append-nil, mul-add, arith, length-append, length-drop}
+use Rattle.std.proofs.Common.{◌≡◌, ℕ, ◌+◌, ◌*◌, ◌<◌, ◌≤◌, Bool, true, false, List, [], ◌∷◌, ◌++◌, length, get_or, drop, Some, None, Ok, Option as StdOption, sym, refl, ap, ◌∙◌, subst, append_assoc, append-nil, mul-add, arith, length-append, length-drop}
 use mathlib.Core.Option.{some}
 use Rattle.std.proofs.lemmas.List.{drop-drop, drop_at, drop_more, drop_all}
 use Rattle.std.proofs.lemmas.Bool.{and_parts, ltb-true, leb-true}
@@ -11,6 +11,7 @@ use Rattle.cycles.specs.Reading.{Begins}
 use Rattle.cycles.proofs.Unique.{of, same_parts}
 use Rattle.machine.specs.declared.observer.Event.{Event}
 use Rattle.machine.specs.declared.observer.Event.TheVariants.{Work as Worked}
+use Rattle.machine.specs.declared.player.Game.{Game}
 use Rattle.machine.specs.declared.player.Place.{Place}
 use Rattle.machine.specs.Cells.{state_of}
 use Rattle.machine.specs.Trace.{trace, then_trace, choose_trace, rounds_trace}
@@ -196,8 +197,8 @@ module _ (c : Cache) (rs : List ℕ) (loops : ℕ) (bs : List Bool) (ws : List �
 pub stands : (ws : List ℕ) (loops : ℕ) (f : Place) (p : P) (rest : List ℕ) → Fit ws loops f p rest → Stands ws f.at
 stands ws loops f p rest h = record { p = p; rest = rest; is = h.is; within = h.within }
 
-pub ready_as : (ws : List ℕ) (loops : ℕ) (f g : Place) (p : P) (rest : List ℕ) → g ≡ f → Fit ws loops f p rest → Ready ws loops g
-ready_as ws loops f g p rest e h = subst (λ z. Ready ws loops z) (sym e) (record { p = p; rest = rest; fit = h })
+pub ready_as : (m : Game) (loops : ℕ) (f g : Place) (xs : List ℕ) (p : P) (rest : List ℕ) → g ≡ f → Fit m.words.now loops f p rest → f.used ≤ length m.choices.now → m.cache.sets * m.cache.ways ≤ length xs → Ready m loops g xs
+ready_as m loops f g xs p rest e h u c = subst (λ z. Ready m loops z xs) (sym e) (record { p = p; rest = rest; fit = h; used = u; cells = c })
 
 -- the bounds of a work and of a touch
 pub work_bounds : (ws : List ℕ) (loops : ℕ) (q : P) (rest : List ℕ) (g : Place) (n : ℕ) → Begins (drop g.at ws) (Ok (Work n)) → Fit ws loops g q rest → (g.at + 2 ≤ length ws) × (g.time + n < 18446744073709551616)

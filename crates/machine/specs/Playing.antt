@@ -3,14 +3,17 @@ use Rattle.std.specs.Prelude.{◌≡◌, ℕ, ◌+◌, ◌*◌, ◌<◌, ◌≤�
 use Rattle.std.proofs.Math.Option.{some, none}
 use Rattle.cycles.specs.Code.{P, work, touch, seq, either, times, skip, Cache, St, empty}
 use Rattle.cycles.specs.Plays.{At, play, Play}
-use Rattle.cycles.specs.Reading.{Breaks}
+use Rattle.cycles.specs.Reading.{Breaks, cache}
 use Rattle.cycles.specs.Rows.{row, ok, amount, Reads}
 use Rattle.cycles.specs.Says.{StaysSound, WiderHolds, WiderNeverSlower, EmptyIsWorst}
 use Rattle.machine.specs.declared.player.Played.{Played}
 use Rattle.machine.specs.declared.player.PlayError.{PlayError}
 use Rattle.machine.specs.declared.player.PlayError.TheVariants.{NoProgram, FewCells, RanOut, LeftOver}
 use Rattle.machine.specs.declared.observer.Event.{Event}
+use Rattle.machine.specs.declared.player.Game.{Game}
 use Rattle.machine.specs.declared.player.Place.{Place}
+use Rattle.machine.specs.declared.rounds.Rounds.{Rounds}
+use Rattle.machine.specs.Around.{around}
 use Rattle.machine.specs.Cells.{state_of}
 use Rattle.machine.specs.Telling.{Tells}
 use Rattle.machine.specs.Trace.{trace, touch_event, sum_cycles}
@@ -30,10 +33,13 @@ pub record Fit (ws : List ℕ) (loops : ℕ) (f : Place) (p : P) (rest : List �
   pub fine : ok loops 0 p ≡ true
   pub room : f.time + 65535 * amount p < 18446744073709551616
 
-pub record Ready (ws : List ℕ) (loops : ℕ) (f : Place) : Type 0 where
+-- a play can go on from f: a program stands there, no more choices are used than there are, and the cells xs are as many as the cache has ways
+pub record Ready (g : Game) (loops : ℕ) (f : Place) (xs : List ℕ) : Type 0 where
   pub p : P
   pub rest : List ℕ
-  pub fit : Fit ws loops f p rest
+  pub fit : Fit g.words.now loops f p rest
+  pub used : f.used ≤ length g.choices.now
+  pub cells : g.cache.sets * g.cache.ways ≤ length xs
 
 -- where a play is, as the definitions have it: the cells of its cache, and the choices that are not used yet
 abbrev pub here : Cache → List Bool → Place → List ℕ → At
@@ -53,6 +59,10 @@ Came c rs bs p f xs ys K L None = (play c p rs (here c bs f xs) ≡ none) × Tel
 -- and so of whatever program stands there
 abbrev pub Goes : Cache → List ℕ → ℕ → List Bool → List ℕ → Place → List ℕ → List ℕ → (List Event → Type 0) → (List Event → Type 0) → StdOption Place → Type 0
 Goes c rs loops bs ws f xs ys K L r = (p : P) (rest : List ℕ) → Fit ws loops f p rest → Came c rs bs p f xs ys K L r
+
+-- the same of a game, in the rounds of the loops around
+abbrev pub Plays : Game → Rounds → Place → List ℕ → List ℕ → (List Event → Type 0) → (List Event → Type 0) → StdOption Place → Type 0
+Plays g rs f xs ys K L r = Goes (cache g.cache) (around rs.at rs.depth) rs.depth g.choices.now g.words.now f xs ys K L r
 
 -- a program that does nothing, whatever the rounds and the choices
 abbrev pub still : P → Bool

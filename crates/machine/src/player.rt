@@ -3,7 +3,7 @@ ghost use Rattle.cycles.specs.declared.node.Node.TheVariants.{Either, Loop};
 ghost use Rattle.cycles.specs.Reading.{Begins, cache as cache_of};
 ghost use Rattle.machine.specs.Around.{around};
 ghost use Rattle.machine.specs.declared.player.PlayError.TheVariants.{NoProgram};
-ghost use Rattle.machine.specs.Playing.{Goes, Observed, PlayPost, Ready};
+ghost use Rattle.machine.specs.Playing.{Observed, PlayPost, Plays, Ready};
 
 use crate::cache::{clear, touch};
 use crate::observer::{Access, Observer};
@@ -134,10 +134,8 @@ fn go<O: Observer>(
     cells: &mut [u32],
     observer: &mut O,
 ) -> Option<Place>
-    requires ready { Ready game.words.now rounds.depth from }
-    requires used { from.used ≤ length game.choices.now }
-    requires cells { game.cache.sets * game.cache.ways ≤ length cells.old }
-    ensures { Goes (cache_of game.entry.cache) (around rounds.at rounds.depth) rounds.depth game.entry.choices.now game.entry.words.now from cells.old cells.new (O.told observer.old) (O.told observer.new) result }
+    requires { Ready game rounds.depth from cells.old }
+    ensures { Plays game.entry rounds from cells.old cells.new (O.told observer.old) (O.told observer.new) result }
 {
     let mut here = from;
     loop {
@@ -171,11 +169,9 @@ fn go_either<O: Observer>(
     cells: &mut [u32],
     observer: &mut O,
 ) -> Option<Place>
-    requires ready { Ready game.words.now rounds.depth from }
-    requires used { from.used ≤ length game.choices.now }
-    requires cells { game.cache.sets * game.cache.ways ≤ length cells.old }
+    requires ready { Ready game rounds.depth from cells.old }
     requires either { Begins (drop from.at game.words.now) (Ok Either) }
-    ensures { Goes (cache_of game.entry.cache) (around rounds.at rounds.depth) rounds.depth game.entry.choices.now game.entry.words.now from cells.old cells.new (O.told observer.old) (O.told observer.new) result }
+    ensures { Plays game.entry rounds from cells.old cells.new (O.told observer.old) (O.told observer.new) result }
 {
     let choices = game.choices;
     let number = from.used;
@@ -207,11 +203,9 @@ fn go_rounds<O: Observer>(
     cells: &mut [u32],
     observer: &mut O,
 ) -> Option<Place>
-    requires ready { Ready game.words.now rounds.depth from }
-    requires used { from.used ≤ length game.choices.now }
-    requires cells { game.cache.sets * game.cache.ways ≤ length cells.old }
+    requires ready { Ready game rounds.depth from cells.old }
     requires rounds { Begins (drop from.at game.words.now) (Ok (Loop count)) }
-    ensures { Goes (cache_of game.entry.cache) (around rounds.at rounds.depth) rounds.depth game.entry.choices.now game.entry.words.now from cells.old cells.new (O.told observer.old) (O.told observer.new) result }
+    ensures { Plays game.entry rounds from cells.old cells.new (O.told observer.old) (O.told observer.new) result }
 {
     let start = from.at + 2;
     let body = look_over(game.words, start);

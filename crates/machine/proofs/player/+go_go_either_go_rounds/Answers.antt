@@ -22,8 +22,8 @@ go-loop-cycles-init g t c = (c.requires.used, omega arith, λ p rest h. onward_s
 
 pub go-past-requires : goal.go-past-requires
 go-past-requires g t c =
-    let o = c.loop-cycles.invariant.2 c.requires.ready.p c.requires.ready.rest c.requires.ready.fit in
-    let b = work_bounds c.args.game.words.now c.args.rounds.depth o.q c.requires.ready.rest c.loop-cycles.here c.in-Work.cycles c.in-Work.ensures o.fit in
+    let o = c.loop-cycles.invariant.2 c.requires.p c.requires.rest c.requires.fit in
+    let b = work_bounds c.args.game.words.now c.args.rounds.depth o.q c.requires.rest c.loop-cycles.here c.in-Work.cycles c.in-Work.ensures o.fit in
     record { at = omega arith; time = b.1 }
 
 pub go-returns-in-Work : goal.go-returns-in-Work
@@ -33,14 +33,14 @@ go-returns-in-Work g t c p rest h =
 
 pub go-address-address-requires : goal.go-address-address-requires
 go-address-address-requires g t c =
-    let o = c.loop-cycles.invariant.2 c.requires.ready.p c.requires.ready.rest c.requires.ready.fit in
-    let b = fit_touch (cache c.args.game.cache) (around c.args.rounds.at c.args.rounds.depth) c.args.rounds.depth c.args.game.choices.now c.args.game.words.now o.q c.requires.ready.rest c.loop-cycles.here c.in-Touch.base c.in-Touch.steps.now c.in-Touch.ensures o.fit in
+    let o = c.loop-cycles.invariant.2 c.requires.p c.requires.rest c.requires.fit in
+    let b = fit_touch (cache c.args.game.cache) (around c.args.rounds.at c.args.rounds.depth) c.args.rounds.depth c.args.game.choices.now c.args.game.words.now o.q c.requires.rest c.loop-cycles.here c.in-Touch.base c.in-Touch.steps.now c.in-Touch.ensures o.fit in
     record { based = b.1; stepped = b.3; few = b.2 }
 
 pub go-past-requires-in-Touch : goal.go-past-requires-in-Touch
 go-past-requires-in-Touch g t c =
-    let o = c.loop-cycles.invariant.2 c.requires.ready.p c.requires.ready.rest c.requires.ready.fit in
-    let b = touch_bounds (cache c.args.game.cache) c.args.game.words.now c.args.rounds.depth o.q c.requires.ready.rest c.loop-cycles.here _ _ _ _ c.in-Touch.base c.in-Touch.steps.now c.address-address.result c.observe_touch-cycles.result (quick c.args.game.cache) c.in-Touch.ensures o.fit c.observe_touch-cycles.ensures in
+    let o = c.loop-cycles.invariant.2 c.requires.p c.requires.rest c.requires.fit in
+    let b = touch_bounds (cache c.args.game.cache) c.args.game.words.now c.args.rounds.depth o.q c.requires.rest c.loop-cycles.here _ _ _ _ c.in-Touch.base c.in-Touch.steps.now c.address-address.result c.observe_touch-cycles.result (quick c.args.game.cache) c.in-Touch.ensures o.fit c.observe_touch-cycles.ensures in
     record { at = omega arith; time = b.1 }
 
 pub go-returns-in-Touch : goal.go-returns-in-Touch
@@ -50,12 +50,12 @@ go-returns-in-Touch g t c p rest h =
 
 pub go-go-requires : goal.go-go-requires
 go-go-requires g t c κs =
-    let o = c.loop-cycles.invariant.2 c.requires.ready.p c.requires.ready.rest c.requires.ready.fit in
-    let x = fit_seq (cache c.args.game.cache) (around c.args.rounds.at c.args.rounds.depth) c.args.rounds.depth c.args.game.choices.now c.args.game.words.now o.q c.requires.ready.rest c.loop-cycles.here c.in-Seq.ensures o.fit in
+    let o = c.loop-cycles.invariant.2 c.requires.p c.requires.rest c.requires.fit in
+    let x = fit_seq (cache c.args.game.cache) (around c.args.rounds.at c.args.rounds.depth) c.args.rounds.depth c.args.game.choices.now c.args.game.words.now o.q c.requires.rest c.loop-cycles.here c.in-Seq.ensures o.fit in
     let e = ap (λ z. z.at) c.to-first.ensures in
     let u = ap (λ z. z.used) c.to-first.ensures in
     let w = x.3.within in
-    λ i. (omega arith, (i, (ready_as _ _ _ c.to-first.result x.0 _ c.to-first.ensures x.3, (omega arith, omega arith))))
+    λ i. (omega arith, (i, ready_as _ _ _ c.to-first.result _ x.0 _ c.to-first.ensures x.3 (omega arith) (omega arith)))
 
 pub go-returns-in_err-here-in-Seq : goal.go-returns-in_err-here-in-Seq
 go-returns-in_err-here-in-Seq g t c p rest h =
@@ -64,8 +64,8 @@ go-returns-in_err-here-in-Seq g t c p rest h =
 
 pub go-loop-cycles-smaller : goal.go-loop-cycles-smaller
 go-loop-cycles-smaller g t c =
-    let o = c.loop-cycles.invariant.2 c.requires.ready.p c.requires.ready.rest c.requires.ready.fit in
-    let x = fit_seq (cache c.args.game.cache) (around c.args.rounds.at c.args.rounds.depth) c.args.rounds.depth c.args.game.choices.now c.args.game.words.now o.q c.requires.ready.rest c.loop-cycles.here c.in-Seq.ensures o.fit in
+    let o = c.loop-cycles.invariant.2 c.requires.p c.requires.rest c.requires.fit in
+    let x = fit_seq (cache c.args.game.cache) (around c.args.rounds.at c.args.rounds.depth) c.args.rounds.depth c.args.game.choices.now c.args.game.words.now o.q c.requires.rest c.loop-cycles.here c.in-Seq.ensures o.fit in
     let m = goes_as (cache c.args.game.cache) (around c.args.rounds.at c.args.rounds.depth) c.args.rounds.depth c.args.game.choices.now c.args.game.words.now c.to-first.result _ _ _ _ _ (Some c.in_ok-here-in-Seq.here) c.to-first.ensures c.in_ok-here-in-Seq.ensures x.0 _ x.3 in
     let w = x.3.within in
     let e = m.0 in
@@ -74,8 +74,8 @@ go-loop-cycles-smaller g t c =
 pub go-loop-cycles-preserved : goal.go-loop-cycles-preserved
 go-loop-cycles-preserved g t c =
     let came = goes_as (cache c.args.game.cache) (around c.args.rounds.at c.args.rounds.depth) c.args.rounds.depth c.args.game.choices.now c.args.game.words.now c.to-first.result _ _ _ _ _ (Some c.in_ok-here-in-Seq.here) c.to-first.ensures c.in_ok-here-in-Seq.ensures in
-    let o = c.loop-cycles.invariant.2 c.requires.ready.p c.requires.ready.rest c.requires.ready.fit in
-    let x = fit_seq (cache c.args.game.cache) (around c.args.rounds.at c.args.rounds.depth) c.args.rounds.depth c.args.game.choices.now c.args.game.words.now o.q c.requires.ready.rest c.loop-cycles.here c.in-Seq.ensures o.fit in
+    let o = c.loop-cycles.invariant.2 c.requires.p c.requires.rest c.requires.fit in
+    let x = fit_seq (cache c.args.game.cache) (around c.args.rounds.at c.args.rounds.depth) c.args.rounds.depth c.args.game.choices.now c.args.game.words.now o.q c.requires.rest c.loop-cycles.here c.in-Seq.ensures o.fit in
     let m = came x.0 _ x.3 in
     (m.3, omega (arith, m.0, c.loop-cycles.invariant.1), λ p rest h. onward_seq (cache c.args.game.cache) (around c.args.rounds.at c.args.rounds.depth) c.args.rounds.depth c.args.game.choices.now c.args.game.words.now (quick c.args.game.cache) p rest _ _ _ c.loop-cycles.here _ _ c.in-Seq.ensures (c.loop-cycles.invariant.2 p rest h) c.in_ok-here-in-Seq.here _ _ came)
 
@@ -110,7 +110,7 @@ go_either-go-requires g t c κs =
     let w = x.4.within in
     let i = ap (λ z. z.at) c.to-second.ensures in
     let u = ap (λ z. z.used) c.to-second.ensures in
-    λ k. (omega arith, (k, (ready_as _ _ _ c.to-second.result x.1 _ c.to-second.ensures f, (omega arith, omega arith))))
+    λ k. (omega arith, (k, ready_as _ _ _ c.to-second.result _ x.1 _ c.to-second.ensures f (omega arith) (omega arith)))
 
 pub go_either-returns-then-not-choices-number : goal.go_either-returns-then-not-choices-number
 go_either-returns-then-not-choices-number g t c p rest h = came_second (cache c.args.game.cache) (around c.args.rounds.at c.args.rounds.depth) c.args.rounds.depth c.args.game.choices.now c.args.game.words.now p rest c.args.from _ c.go.new.cells _ _ c.look_over-skipped.result.end c.go.result c.requires.either h c.if-number-choices.false c.if-not-choices-number.true (λ a s e. c.look_over-skipped.ensures.ends a s e) (goes_as (cache c.args.game.cache) (around c.args.rounds.at c.args.rounds.depth) c.args.rounds.depth c.args.game.choices.now c.args.game.words.now c.to-second.result _ _ c.go.new.cells _ _ c.go.result c.to-second.ensures c.go.ensures)
@@ -119,7 +119,7 @@ pub go_either-go-requires-2 : goal.go_either-go-requires-2
 go_either-go-requires-2 g t c κs =
     let x = fit_either (cache c.args.game.cache) (around c.args.rounds.at c.args.rounds.depth) c.args.rounds.depth c.args.game.choices.now c.args.game.words.now c.requires.ready.p c.requires.ready.rest c.args.from (c.args.from.used + 1) c.requires.either c.requires.ready.fit in
     let w = x.3.within in
-    λ k. (omega arith, (k, (ready_as _ _ _ _ x.0 _ refl x.3, (omega arith, omega arith))))
+    λ k. (omega arith, (k, ready_as _ _ _ _ _ x.0 _ refl x.3 (omega arith) (omega arith)))
 
 pub go_either-returns-in_err-end : goal.go_either-returns-in_err-end
 go_either-returns-in_err-end g t c p rest h =
@@ -143,10 +143,10 @@ go_rounds-look_over-body-requires g t c =
 pub go_rounds-returns-then-body : goal.go_rounds-returns-then-body
 go_rounds-returns-then-body g t c p rest h =
     let b = body (cache c.args.game.cache) (around c.args.rounds.at c.args.rounds.depth) c.args.rounds.depth c.args.game.choices.now c.args.game.words.now c.args.count p rest c.args.from c.requires.rounds h in
-    came_as (cache c.args.game.cache) (around c.args.rounds.at c.args.rounds.depth) c.args.rounds.depth c.args.game.choices.now c.args.game.words.now p _ _ _ _ _ (Some c.to.result) _ (ap Some c.to.ensures) (came_quiet (cache c.args.game.cache) (around c.args.rounds.at c.args.rounds.depth) c.args.rounds.depth c.args.game.choices.now c.args.game.words.now c.args.count p b.a c.look_over-body.result.end c.args.from _ _ b.loop (c.look_over-body.ensures.ends b.a rest b.is) c.requires.used (sym (c.look_over-body.ensures.does b.a rest b.is) ∙ c.if-body.true))
+    came_as (cache c.args.game.cache) (around c.args.rounds.at c.args.rounds.depth) c.args.rounds.depth c.args.game.choices.now c.args.game.words.now p _ _ _ _ _ (Some c.to.result) _ (ap Some c.to.ensures) (came_quiet (cache c.args.game.cache) (around c.args.rounds.at c.args.rounds.depth) c.args.rounds.depth c.args.game.choices.now c.args.game.words.now c.args.count p b.a c.look_over-body.result.end c.args.from _ _ b.loop (c.look_over-body.ensures.ends b.a rest b.is) c.requires.ready.used (sym (c.look_over-body.ensures.does b.a rest b.is) ∙ c.if-body.true))
 
 pub go_rounds-loop-round-init : goal.go_rounds-loop-round-init
-go_rounds-loop-round-init g t c = (c.requires.used, λ p a rest h e. turned_start (cache c.args.game.cache) (around c.args.rounds.at c.args.rounds.depth) c.args.rounds.depth c.args.game.choices.now c.args.game.words.now c.args.count p a rest c.args.from _ _ e h)
+go_rounds-loop-round-init g t c = (c.requires.ready.used, λ p a rest h e. turned_start (cache c.args.game.cache) (around c.args.rounds.at c.args.rounds.depth) c.args.rounds.depth c.args.game.choices.now c.args.game.words.now c.args.count p a rest c.args.from _ _ e h)
 
 pub go_rounds-inside-requires : goal.go_rounds-inside-requires
 go_rounds-inside-requires g t c =
@@ -162,7 +162,7 @@ go_rounds-go-requires g t c κs =
     let i = ap (λ z. z.at) c.to-in-loop-round.ensures in
     let v = ap (λ z. z.used) c.to-in-loop-round.ensures in
     let w = b.within in
-    λ k. (omega arith, (k, (ready_as _ _ _ c.to-in-loop-round.result b.a _ c.to-in-loop-round.ensures d, (omega (arith, c.loop-round.invariant.0), omega arith))))
+    λ k. (omega arith, (k, ready_as _ _ _ c.to-in-loop-round.result _ b.a _ c.to-in-loop-round.ensures d (omega (arith, c.loop-round.invariant.0)) (omega arith)))
 
 pub go_rounds-returns-in_err-here : goal.go_rounds-returns-in_err-here
 go_rounds-returns-in_err-here g t c p rest h =

@@ -2,7 +2,7 @@ use Rattle.std.proofs.Common.{◌≡◌, [], Some, None, sym, refl, subst, arith
 use Rattle.std.proofs.lemmas.Result.{err_from_is_err_and}
 use Rattle.cycles.specs.Reading.{cache}
 use Rattle.machine.specs.declared.player.PlayError.TheVariants.{RanOut}
-use Rattle.machine.specs.Playing.{Ready}
+use Rattle.machine.specs.Playing.{Fit}
 use Rattle.machine.proofs.Going.{goes_in}
 use Rattle.machine.proofs.Tellings.{tells_none}
 use Rattle.machine.proofs.Told.{start, promised, start_fit, told_whole, told_left_over, told_ran_out}
@@ -21,7 +21,8 @@ returns-then-cells g c =
 pub go-requires : goal.go-requires
 go-requires g c =
     let s = c.in_ok-cache.ensures.says in
-    record { ready = subst (λ l. Ready c.args.words.now l start) (sym c.none.ensures.1) (record { p = s.0; rest = []; fit = start_fit _ _ _ s.1 }); used = omega arith; cells = omega (arith, c.cells.ensures) }
+    let f = subst (λ l. Fit c.args.words.now l start s.0 []) (sym c.none.ensures.1) (start_fit _ _ _ s.1) in
+    record { p = s.0; rest = []; fit = f; used = omega arith; cells = omega (arith, c.cells.ensures) }
 
 pub returns-in_err-end : goal.returns-in_err-end
 returns-in_err-end g c =
