@@ -18,7 +18,7 @@ same_body : {p a b : P} {n : ℕ} → p ≡ times n a → p ≡ times n b → a 
 same_body e f = cc
 
 pub go-loop-cycles-init : goal.go-loop-cycles-init
-go-loop-cycles-init g t c = (c.requires.used, omega arith, λ p rest h. onward_start (cache c.args.game.cache) (around c.args.rounds.at c.args.rounds.depth) c.args.rounds.depth c.args.game.choices.now c.args.game.words.now p rest c.args.from _ _ h)
+go-loop-cycles-init g t c = (c.requires.used, omega arith, λ p rest h. onward_start _ _ _ _ _ p rest c.args.from _ _ h)
 
 pub go-past-requires : goal.go-past-requires
 go-past-requires g t c =
@@ -29,7 +29,7 @@ go-past-requires g t c =
 pub go-returns-in-Work : goal.go-returns-in-Work
 go-returns-in-Work g t c p rest h =
     let o = c.loop-cycles.invariant.2 p rest h in
-    onward_end (cache c.args.game.cache) (around c.args.rounds.at c.args.rounds.depth) c.args.rounds.depth c.args.game.choices.now c.args.game.words.now p rest _ _ _ c.loop-cycles.here c.loop-cycles.cells _ _ _ (Some c.past.result) o (came_as _ _ c.args.rounds.depth _ c.args.game.words.now o.q _ _ _ _ _ (Some c.past.result) _ (ap Some c.past.ensures) (came_work _ _ c.args.rounds.depth _ c.args.game.words.now o.q rest c.loop-cycles.here _ _ _ c.in-Work.cycles c.in-Work.ensures o.fit c.loop-cycles.invariant.0 c.work.ensures))
+    onward_end _ _ _ _ _ p rest _ _ _ c.loop-cycles.here c.loop-cycles.cells _ _ _ (Some c.past.result) o (came_as _ _ c.args.rounds.depth _ c.args.game.words.now o.q _ _ _ _ _ (Some c.past.result) _ (ap Some c.past.ensures) (came_work _ _ c.args.rounds.depth _ c.args.game.words.now o.q rest c.loop-cycles.here _ _ _ c.in-Work.cycles c.in-Work.ensures o.fit c.loop-cycles.invariant.0 c.work.ensures))
 
 pub go-address-address-requires : goal.go-address-address-requires
 go-address-address-requires g t c =
@@ -46,7 +46,7 @@ go-past-requires-in-Touch g t c =
 pub go-returns-in-Touch : goal.go-returns-in-Touch
 go-returns-in-Touch g t c p rest h =
     let o = c.loop-cycles.invariant.2 p rest h in
-    onward_end (cache c.args.game.cache) (around c.args.rounds.at c.args.rounds.depth) c.args.rounds.depth c.args.game.choices.now c.args.game.words.now p rest _ _ _ c.loop-cycles.here c.loop-cycles.cells _ _ _ (Some c.past-in-Touch.result) o (came_as _ _ c.args.rounds.depth _ c.args.game.words.now o.q _ _ _ _ _ (Some c.past-in-Touch.result) _ (ap Some c.past-in-Touch.ensures) (came_touch _ _ c.args.rounds.depth _ c.args.game.words.now o.q rest c.loop-cycles.here _ _ _ _ c.in-Touch.base c.in-Touch.steps.now c.address-address.result c.observe_touch-cycles.result c.in-Touch.ensures o.fit c.loop-cycles.invariant.0 c.address-address.ensures.value c.observe_touch-cycles.ensures))
+    onward_end _ _ _ _ _ p rest _ _ _ c.loop-cycles.here c.loop-cycles.cells _ _ _ (Some c.past-in-Touch.result) o (came_as _ _ c.args.rounds.depth _ c.args.game.words.now o.q _ _ _ _ _ (Some c.past-in-Touch.result) _ (ap Some c.past-in-Touch.ensures) (came_touch _ _ c.args.rounds.depth _ c.args.game.words.now o.q rest c.loop-cycles.here _ _ _ _ c.in-Touch.base c.in-Touch.steps.now c.address-address.result c.observe_touch-cycles.result c.in-Touch.ensures o.fit c.loop-cycles.invariant.0 c.address-address.ensures.value c.observe_touch-cycles.ensures))
 
 pub go-go-requires : goal.go-go-requires
 go-go-requires g t c κs =
@@ -77,25 +77,25 @@ go-loop-cycles-preserved g t c =
     let o = c.loop-cycles.invariant.2 c.requires.p c.requires.rest c.requires.fit in
     let x = fit_seq (cache c.args.game.cache) (around c.args.rounds.at c.args.rounds.depth) c.args.rounds.depth c.args.game.choices.now c.args.game.words.now o.q c.requires.rest c.loop-cycles.here c.in-Seq.ensures o.fit in
     let m = came x.0 _ x.3 in
-    (m.3, omega (arith, m.0, c.loop-cycles.invariant.1), λ p rest h. onward_seq (cache c.args.game.cache) (around c.args.rounds.at c.args.rounds.depth) c.args.rounds.depth c.args.game.choices.now c.args.game.words.now (quick c.args.game.cache) p rest _ _ _ c.loop-cycles.here _ _ c.in-Seq.ensures (c.loop-cycles.invariant.2 p rest h) c.in_ok-here-in-Seq.here _ _ came)
+    (m.3, omega (arith, m.0, c.loop-cycles.invariant.1), λ p rest h. onward_seq _ _ _ _ _ (quick c.args.game.cache) p rest _ _ _ c.loop-cycles.here _ _ c.in-Seq.ensures (c.loop-cycles.invariant.2 p rest h) c.in_ok-here-in-Seq.here _ _ came)
 
 pub go-returns-in-Either : goal.go-returns-in-Either
 go-returns-in-Either g t c p rest h =
     let o = c.loop-cycles.invariant.2 p rest h in
-    onward_end (cache c.args.game.cache) (around c.args.rounds.at c.args.rounds.depth) c.args.rounds.depth c.args.game.choices.now c.args.game.words.now p rest _ _ _ c.loop-cycles.here c.loop-cycles.cells c.go_either.new.cells _ _ c.go_either.result o (c.go_either.ensures o.q rest o.fit)
+    onward_end _ _ _ _ _ p rest _ _ _ c.loop-cycles.here c.loop-cycles.cells c.go_either.new.cells _ _ c.go_either.result o (c.go_either.ensures o.q rest o.fit)
 
 pub go-returns-in-Loop : goal.go-returns-in-Loop
 go-returns-in-Loop g t c p rest h =
     let o = c.loop-cycles.invariant.2 p rest h in
-    onward_end (cache c.args.game.cache) (around c.args.rounds.at c.args.rounds.depth) c.args.rounds.depth c.args.game.choices.now c.args.game.words.now p rest _ _ _ c.loop-cycles.here c.loop-cycles.cells c.go_rounds.new.cells _ _ c.go_rounds.result o (c.go_rounds.ensures o.q rest o.fit)
+    onward_end _ _ _ _ _ p rest _ _ _ c.loop-cycles.here c.loop-cycles.cells c.go_rounds.new.cells _ _ c.go_rounds.result o (c.go_rounds.ensures o.q rest o.fit)
 
 pub go-returns-in-Skip : goal.go-returns-in-Skip
 go-returns-in-Skip g t c p rest h =
     let o = c.loop-cycles.invariant.2 p rest h in
-    onward_end (cache c.args.game.cache) (around c.args.rounds.at c.args.rounds.depth) c.args.rounds.depth c.args.game.choices.now c.args.game.words.now p rest _ _ _ c.loop-cycles.here c.loop-cycles.cells _ _ _ (Some c.to.result) o (came_as _ _ c.args.rounds.depth _ c.args.game.words.now o.q _ _ _ _ _ (Some c.to.result) _ (ap Some c.to.ensures) (came_skip _ _ c.args.rounds.depth _ c.args.game.words.now o.q rest c.loop-cycles.here _ _ c.in-Skip.ensures o.fit c.loop-cycles.invariant.0))
+    onward_end _ _ _ _ _ p rest _ _ _ c.loop-cycles.here c.loop-cycles.cells _ _ _ (Some c.to.result) o (came_as _ _ c.args.rounds.depth _ c.args.game.words.now o.q _ _ _ _ _ (Some c.to.result) _ (ap Some c.to.ensures) (came_skip _ _ c.args.rounds.depth _ c.args.game.words.now o.q rest c.loop-cycles.here _ _ c.in-Skip.ensures o.fit c.loop-cycles.invariant.0))
 
 pub go_either-returns-then-number-choices : goal.go_either-returns-then-number-choices
-go_either-returns-then-number-choices g t c p rest h = came_none (cache c.args.game.cache) (around c.args.rounds.at c.args.rounds.depth) c.args.rounds.depth c.args.game.choices.now c.args.game.words.now p rest c.args.from c.args.cells.now _ c.requires.either h c.if-number-choices.true
+go_either-returns-then-number-choices g t c p rest h = came_none _ _ _ _ _ p rest c.args.from c.args.cells.now _ c.requires.either h c.if-number-choices.true
 
 pub go_either-look_over-skipped-requires : goal.go_either-look_over-skipped-requires
 go_either-look_over-skipped-requires g t c =
@@ -113,7 +113,7 @@ go_either-go-requires g t c κs =
     λ k. (omega arith, (k, ready_as _ _ _ c.to-second.result _ x.1 _ c.to-second.ensures f (omega arith) (omega arith)))
 
 pub go_either-returns-then-not-choices-number : goal.go_either-returns-then-not-choices-number
-go_either-returns-then-not-choices-number g t c p rest h = came_second (cache c.args.game.cache) (around c.args.rounds.at c.args.rounds.depth) c.args.rounds.depth c.args.game.choices.now c.args.game.words.now p rest c.args.from _ c.go.new.cells _ _ c.look_over-skipped.result.end c.go.result c.requires.either h c.if-number-choices.false c.if-not-choices-number.true (λ a s e. c.look_over-skipped.ensures.ends a s e) (goes_as (cache c.args.game.cache) (around c.args.rounds.at c.args.rounds.depth) c.args.rounds.depth c.args.game.choices.now c.args.game.words.now c.to-second.result _ _ c.go.new.cells _ _ c.go.result c.to-second.ensures c.go.ensures)
+go_either-returns-then-not-choices-number g t c p rest h = came_second _ _ _ _ _ p rest c.args.from _ c.go.new.cells _ _ c.look_over-skipped.result.end c.go.result c.requires.either h c.if-number-choices.false c.if-not-choices-number.true (λ a s e. c.look_over-skipped.ensures.ends a s e) (goes_as (cache c.args.game.cache) (around c.args.rounds.at c.args.rounds.depth) c.args.rounds.depth c.args.game.choices.now c.args.game.words.now c.to-second.result _ _ c.go.new.cells _ _ c.go.result c.to-second.ensures c.go.ensures)
 
 pub go_either-go-requires-2 : goal.go_either-go-requires-2
 go_either-go-requires-2 g t c κs =
@@ -146,7 +146,7 @@ go_rounds-returns-then-body g t c p rest h =
     came_as (cache c.args.game.cache) (around c.args.rounds.at c.args.rounds.depth) c.args.rounds.depth c.args.game.choices.now c.args.game.words.now p _ _ _ _ _ (Some c.to.result) _ (ap Some c.to.ensures) (came_quiet (cache c.args.game.cache) (around c.args.rounds.at c.args.rounds.depth) c.args.rounds.depth c.args.game.choices.now c.args.game.words.now c.args.count p b.a c.look_over-body.result.end c.args.from _ _ b.loop (c.look_over-body.ensures.ends b.a rest b.is) c.requires.ready.used (sym (c.look_over-body.ensures.does b.a rest b.is) ∙ c.if-body.true))
 
 pub go_rounds-loop-round-init : goal.go_rounds-loop-round-init
-go_rounds-loop-round-init g t c = (c.requires.ready.used, λ p a rest h e. turned_start (cache c.args.game.cache) (around c.args.rounds.at c.args.rounds.depth) c.args.rounds.depth c.args.game.choices.now c.args.game.words.now c.args.count p a rest c.args.from _ _ e h)
+go_rounds-loop-round-init g t c = (c.requires.ready.used, λ p a rest h e. turned_start _ _ _ _ _ c.args.count p a rest c.args.from _ _ e h)
 
 pub go_rounds-inside-requires : goal.go_rounds-inside-requires
 go_rounds-inside-requires g t c =
