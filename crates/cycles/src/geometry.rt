@@ -1,5 +1,6 @@
 ghost use Rattle.std.specs.Prelude.{◌≡◌, ◌*◌, ◌<◌, ◌≤◌};
 
+use crate::LIMIT;
 use crate::fault::{Fault, Rule};
 use std::fmt;
 
@@ -8,9 +9,6 @@ const MOST_SETS: u32 = 64;
 const MOST_WAYS: u32 = 8;
 
 const MOST_LINE: u32 = 64;
-
-// The cycles of a miss are below it.
-const LIMIT: u32 = 65536;
 
 // Which line a full set evicts when another comes in.
 #[derive(Clone, Copy, PartialEq, Eq, Debug)]

@@ -1,10 +1,8 @@
 ghost use Rattle.std.specs.Prelude.{◌≡◌, ℕ, ◌+◌, ◌<◌, ◌≤◌, MatchResult, nat_le, position};
 
+use crate::LIMIT;
 use crate::fault::{Fault, Rule};
 use crate::node::Node;
-
-// Cycles, bases and steps are below it.
-const LIMIT: u32 = 65536;
 
 const MOST_ROUNDS: u32 = 4096;
 
