@@ -4,6 +4,7 @@ ghost use Rattle.cycles.specs.Reading.{cache as cache_of, is_lru};
 ghost use Rattle.machine.specs.Cells.{Tidy, TidyCells, is_hit, lines_of, outcome_in, outcome_of, state_of, touched_set};
 ghost use Rattle.machine.specs.Standings.{Stood};
 
+use crate::rounds::Address;
 use cycles::geometry::{Geometry, Policy};
 
 // What a touch did to its set.
@@ -93,18 +94,17 @@ fn touch_set(ways: &mut [u32], line: u32, policy: Policy) -> Outcome
 }
 
 // Touches an address in the cells of a cache.
-pub fn touch(cells: &mut [u32], cache: Geometry, address: u32) -> Touched
-    requires address { address < 4294967295 }
-    requires cells { cache.sets * cache.ways ≤ length cells.old }
-    ensures after { state_of (cache_of cache) cells.new ≡ after (cache_of cache) (state_of (cache_of cache) cells.old) address }
-    ensures outcome { result.outcome ≡ outcome_of (cache_of cache) (state_of (cache_of cache) cells.old) address }
-    ensures cycles { result.cycles ≡ cost (cache_of cache) (state_of (cache_of cache) cells.old) address }
-    ensures line { result.line ≡ line_of (cache_of cache) address }
-    ensures set { result.set ≡ set_of (cache_of cache) address }
+pub fn touch(cells: &mut [u32], cache: Geometry, address: Address) -> Touched
+    requires { cache.sets * cache.ways ≤ length cells.old }
+    ensures after { state_of (cache_of cache) cells.new ≡ after (cache_of cache) (state_of (cache_of cache) cells.old) address.word }
+    ensures outcome { result.outcome ≡ outcome_of (cache_of cache) (state_of (cache_of cache) cells.old) address.word }
+    ensures cycles { result.cycles ≡ cost (cache_of cache) (state_of (cache_of cache) cells.old) address.word }
+    ensures line { result.line ≡ line_of (cache_of cache) address.word }
+    ensures set { result.set ≡ set_of (cache_of cache) address.word }
     ensures tidy { TidyCells (cache_of cache) cells.old → TidyCells (cache_of cache) cells.new }
     ensures behind { drop (cache.sets * cache.ways) cells.new ≡ drop (cache.sets * cache.ways) cells.old }
 {
-    let line = address / cache.line;
+    let line = address.word / cache.line;
     let set = line % cache.sets;
     let ways = cache.ways as usize;
     let from = set as usize * ways;

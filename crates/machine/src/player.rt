@@ -7,7 +7,7 @@ ghost use Rattle.machine.specs.Playing.{Observed, PlayPost, Plays, Ready};
 
 use crate::cache::{clear, touch};
 use crate::observer::{Access, Observer};
-use crate::rounds::Rounds;
+use crate::rounds::{Address, Rounds};
 use crate::survey::{look_over, node_at};
 use cycles::fault::Fault;
 use cycles::geometry::Geometry;
@@ -108,18 +108,17 @@ struct Game<'a> {
 fn observe_touch<O: Observer>(
     cache: Geometry,
     start: u64,
-    address: u32,
+    address: Address,
     cells: &mut [u32],
     observer: &mut O,
 ) -> u32
-    requires low { address < 4294967295 }
-    requires cells { cache.sets * cache.ways ≤ length cells.old }
-    ensures { Observed (cache_of cache) address start cells.old cells.new (O.told observer.old) (O.told observer.new) result }
+    requires { cache.sets * cache.ways ≤ length cells.old }
+    ensures { Observed (cache_of cache) address.word start cells.old cells.new (O.told observer.old) (O.told observer.new) result }
 {
     let touched = touch(cells, cache, address);
     observer.touch(Access {
         start,
-        address,
+        address: address.word,
         touched,
     });
     touched.cycles

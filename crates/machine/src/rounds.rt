@@ -3,6 +3,13 @@ ghost use Rattle.cycles.specs.Code.{place};
 ghost use Rattle.cycles.specs.Rows.{small};
 ghost use Rattle.machine.specs.Around.{around, below};
 
+// The address of a word of memory. The number of its line fits a word with one more.
+#[derive(Clone, Copy, PartialEq, Eq, Debug)]
+pub struct Address {
+    pub word: u32,
+    ghost low: { word < 4294967295 },
+}
+
 // The rounds that the loops around are in, the innermost first.
 #[derive(Clone, Copy, PartialEq, Eq, Debug)]
 pub struct Rounds {
@@ -40,17 +47,17 @@ impl Rounds {
     }
 
     // The address that a touch is of in these rounds.
-    pub fn address(self, base: u32, steps: &[u32]) -> u32
+    pub fn address(self, base: u32, steps: &[u32]) -> Address
         requires based { base < 65536 }
         requires stepped { small steps.now ≡ true }
         requires few { length steps.now ≤ self.depth }
-        ensures value { result ≡ place base steps.now (around self.at self.depth) }
-        ensures bound { result ≤ 2146992135 }
+        ensures value { result.word ≡ place base steps.now (around self.at self.depth) }
+        ensures bound { result.word ≤ 2146992135 }
     {
-        let mut address = base;
+        let mut word = base;
         for (step, round) in steps.iter().zip(&self.at) {
-            address += step * round;
+            word += step * round;
         }
-        address
+        Address { word }
     }
 }

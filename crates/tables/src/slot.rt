@@ -8,6 +8,7 @@ ghost use Rattle.trails.specs.Trails.{telling_of};
 
 use cycles::geometry::Geometry;
 use machine::cache::{clear, touch};
+use machine::rounds::Address;
 use trails::telling::{halves, joined};
 use trails::{ChoiceNumber, Store, Telling};
 
@@ -125,12 +126,11 @@ pub fn improve(slot: &mut [u32], cells: usize, long: Telling, short: Telling)
 }
 
 // Touches an address in the state of a slot, and spends its cycles.
-pub fn touch_slot(slot: &mut [u32], cache: Geometry, address: u32)
+pub fn touch_slot(slot: &mut [u32], cache: Geometry, address: Address)
     requires fits { width_of (cache_of cache) ≤ length slot.old }
-    requires low { address < 4294967295 }
     requires long { (telling_of (drop (cells_of (cache_of cache)) slot.old)).time + 65535 < 18446744073709551616 }
     requires short { (telling_of (drop (cells_of (cache_of cache) + 7) slot.old)).time + 65535 < 18446744073709551616 }
-    ensures { (a : Both ℕ) (s : List ℕ) (e : Entry (Both Val)) → Shown (cache_of cache) a s slot.old e → Shown (cache_of cache) a s slot.new (touched told (cache_of cache) address e) }
+    ensures { (a : Both ℕ) (s : List ℕ) (e : Entry (Both Val)) → Shown (cache_of cache) a s slot.old e → Shown (cache_of cache) a s slot.new (touched told (cache_of cache) address.word e) }
 {
     let touched = touch(slot, cache, address);
     spend(slot, cache.cells(), touched.cycles);

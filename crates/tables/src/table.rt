@@ -10,6 +10,7 @@ ghost use Rattle.trails.specs.Trails.{telling_of};
 
 use crate::slot::{Firsts, TELLING, improve, note_slot, spend, telling_at, touch_slot, width};
 use cycles::geometry::Geometry;
+use machine::rounds::Address;
 use trails::Store;
 
 // The number of a state in a table, from 0.
@@ -44,12 +45,11 @@ impl Change for Work {
 
 #[derive(Clone, Copy)]
 struct Touch {
-    address: u32,
-    ghost low: { address < 4294967295 },
+    address: Address,
 }
 
 impl Change for Touch {
-    ghost makes = { λ t c e. touched told c t.address e };
+    ghost makes = { λ t c e. touched told c t.address.word e };
 
     fn change(&self, slot: &mut [u32], cache: Geometry) {
         touch_slot(slot, cache, self.address);
@@ -80,11 +80,10 @@ pub fn spend_all(slots: &mut [u32], cache: Geometry, n: usize, cycles: u32)
 }
 
 // Touches an address in each of the first n slots.
-pub fn touch_all(slots: &mut [u32], cache: Geometry, n: usize, address: u32)
+pub fn touch_all(slots: &mut [u32], cache: Geometry, n: usize, address: Address)
     requires fits { width_of (cache_of cache) * n ≤ length slots.old }
-    requires low { address < 4294967295 }
     requires room { Spendable (cache_of cache) n slots.old }
-    ensures { (a : Both ℕ) (s : List ℕ) (T : Table) → Shows (cache_of cache) a s n slots.old T → Shows (cache_of cache) a s n slots.new (map (touched told (cache_of cache) address) T) }
+    ensures { (a : Both ℕ) (s : List ℕ) (T : Table) → Shows (cache_of cache) a s n slots.old T → Shows (cache_of cache) a s n slots.new (map (touched told (cache_of cache) address.word) T) }
 {
     change_all(slots, cache, n, &Touch { address });
 }

@@ -16,16 +16,16 @@ within_any n w x h = within n w (x % n) (mod-lt x h)
 pub returns : goal.returns
 returns c =
     let g : Cache = cache c.args.cache in
-    let i = in_sets g c.args.address c.args.cache.sets_fit.0 in
-    let from : ℕ = set_of g c.args.address * g.ways in
+    let i = in_sets g c.args.address.word c.args.cache.sets_fit.0 in
+    let from : ℕ = set_of g c.args.address.word * g.ways in
     let w : from + g.ways - from ≡ g.ways = omega arith in
     let o = c.touch_set-outcome.ensures in
     record {
-      after = after_at g c.args.cells.now c.args.address (from + g.ways - from) i c.requires.cells w c.touch_set-outcome.new.ways c.touch_set-outcome.auto.ways o.after;
-      outcome = outcome_at g c.args.cells.now c.args.address (from + g.ways - from) i c.requires.cells w _ o.outcome;
-      cycles = c.cycles.ensures ∙ hit_at g c.args.cells.now c.args.address (from + g.ways - from) i c.requires.cells w _ o.outcome;
+      after = after_at g c.args.cells.now c.args.address.word (from + g.ways - from) i c.requires w c.touch_set-outcome.new.ways c.touch_set-outcome.auto.ways o.after;
+      outcome = outcome_at g c.args.cells.now c.args.address.word (from + g.ways - from) i c.requires w _ o.outcome;
+      cycles = c.cycles.ensures ∙ hit_at g c.args.cells.now c.args.address.word (from + g.ways - from) i c.requires w _ o.outcome;
       line = refl;
       set = refl;
-      tidy = tidy_touched g c.args.cells.now c.args.address (from + g.ways - from) i c.requires.cells w c.touch_set-outcome.new.ways c.touch_set-outcome.auto.ways o.tidy;
-      behind = behind_at g c.args.cells.now c.args.address (from + g.ways - from) i c.requires.cells w c.touch_set-outcome.new.ways c.touch_set-outcome.auto.ways;
+      tidy = tidy_touched g c.args.cells.now c.args.address.word (from + g.ways - from) i c.requires w c.touch_set-outcome.new.ways c.touch_set-outcome.auto.ways o.tidy;
+      behind = behind_at g c.args.cells.now c.args.address.word (from + g.ways - from) i c.requires w c.touch_set-outcome.new.ways c.touch_set-outcome.auto.ways;
     }

@@ -40,13 +40,13 @@ go-address-address-requires g t c =
 pub go-past-requires-in-Touch : goal.go-past-requires-in-Touch
 go-past-requires-in-Touch g t c =
     let o = c.loop-cycles.invariant.2 c.requires.p c.requires.rest c.requires.fit in
-    let b = touch_bounds (cache c.args.game.cache) c.args.game.words.now c.args.rounds.depth o.q c.requires.rest c.loop-cycles.here _ _ _ _ c.in-Touch.base c.in-Touch.steps.now c.address-address.result c.observe_touch-cycles.result (quick c.args.game.cache) c.in-Touch.ensures o.fit c.observe_touch-cycles.ensures in
+    let b = touch_bounds (cache c.args.game.cache) c.args.game.words.now c.args.rounds.depth o.q c.requires.rest c.loop-cycles.here _ _ _ _ c.in-Touch.base c.in-Touch.steps.now c.address-address.result.word c.observe_touch-cycles.result (quick c.args.game.cache) c.in-Touch.ensures o.fit c.observe_touch-cycles.ensures in
     record { at = omega arith; time = b.1 }
 
 pub go-returns-in-Touch : goal.go-returns-in-Touch
 go-returns-in-Touch g t c p rest h =
     let o = c.loop-cycles.invariant.2 p rest h in
-    onward_end _ _ _ _ _ p rest _ _ _ c.loop-cycles.here c.loop-cycles.cells _ _ _ (Some c.past-in-Touch.result) o (came_as _ _ c.args.rounds.depth _ c.args.game.words.now o.q _ _ _ _ _ (Some c.past-in-Touch.result) _ (ap Some c.past-in-Touch.ensures) (came_touch _ _ c.args.rounds.depth _ c.args.game.words.now o.q rest c.loop-cycles.here _ _ _ _ c.in-Touch.base c.in-Touch.steps.now c.address-address.result c.observe_touch-cycles.result c.in-Touch.ensures o.fit c.loop-cycles.invariant.0 c.address-address.ensures.value c.observe_touch-cycles.ensures))
+    onward_end _ _ _ _ _ p rest _ _ _ c.loop-cycles.here c.loop-cycles.cells _ _ _ (Some c.past-in-Touch.result) o (came_as _ _ c.args.rounds.depth _ c.args.game.words.now o.q _ _ _ _ _ (Some c.past-in-Touch.result) _ (ap Some c.past-in-Touch.ensures) (came_touch _ _ c.args.rounds.depth _ c.args.game.words.now o.q rest c.loop-cycles.here _ _ _ _ c.in-Touch.base c.in-Touch.steps.now c.address-address.result.word c.observe_touch-cycles.result c.in-Touch.ensures o.fit c.loop-cycles.invariant.0 c.address-address.ensures.value c.observe_touch-cycles.ensures))
 
 pub go-go-requires : goal.go-go-requires
 go-go-requires g t c κs =

@@ -13,7 +13,7 @@ pub spend-requires : goal.spend-requires
 spend-requires c =
     let g : Cache = cache c.args.cache in
     let q : Quick g = record { hit = omega (arith, c.args.cache.cycles_fit); miss = omega (arith, c.args.cache.cycles_fit) } in
-    let b = cost_bound g (state_of g c.args.slot.now) c.args.address q in
+    let b = cost_bound g (state_of g c.args.slot.now) c.args.address.word q in
     let n = c.touch-touched.ensures.cycles in
     let e = c.touch-touched.ensures.behind in
     let d : drop (cells g + 7) c.touch-touched.new.cells ≡ drop (cells g + 7) c.args.slot.now = sym (drop-drop 7 (cells g) c.touch-touched.new.cells) ∙ ap (drop 7) e ∙ drop-drop 7 (cells g) c.args.slot.now in
@@ -29,4 +29,4 @@ pub returns : goal.returns
 returns c a s e m =
     let g : Cache = cache c.args.cache in
     let o = c.touch-touched.ensures in
-    shown_touch g a c.args.slot.now c.touch-touched.new.cells c.spend.new.slot c.cells.result c.cells.ensures c.requires.fits c.touch-touched.auto.cells c.spend.auto.slot s c.args.address c.touch-touched.result.cycles e o.after o.tidy o.behind o.cycles c.spend.ensures m
+    shown_touch g a c.args.slot.now c.touch-touched.new.cells c.spend.new.slot c.cells.result c.cells.ensures c.requires.fits c.touch-touched.auto.cells c.spend.auto.slot s c.args.address.word c.touch-touched.result.cycles e o.after o.tidy o.behind o.cycles c.spend.ensures m

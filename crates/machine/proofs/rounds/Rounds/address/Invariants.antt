@@ -6,4 +6,4 @@ use Rattle.machine.proofs.rounds.Rounds.address.Given as goal
 -- what the steps that are left add makes it the address of all
 abbrev pub invariant-loop-step : goal.invariant-loop-step
 invariant-loop-step l =
-    (l.address ≤ 65535 + length l.yielded * 268365825) × (place l.address (drop (length l.yielded) l.steps) (drop (length l.yielded) (around l.fn.self.at l.fn.self.depth)) ≡ place l.base l.steps (around l.fn.self.at l.fn.self.depth))
+    (l.word ≤ 65535 + length l.yielded * 268365825) × (place l.word (drop (length l.yielded) l.steps) (drop (length l.yielded) (around l.fn.self.at l.fn.self.depth)) ≡ place l.base l.steps (around l.fn.self.at l.fn.self.depth))
