@@ -9,7 +9,7 @@ use Rattle.cycles.specs.Rows.{row, ok, small}
 use Rattle.cycles.proofs.Unique.{of, same_parts}
 use Rattle.engine.specs.Passing.{Fit}
 
-module _ (ws : List ℕ) (loops at : ℕ) (q : P) (rest : List ℕ) (h : Fit ws loops at q rest) where
+module _ {ws : List ℕ} {loops at : ℕ} {q : P} {rest : List ℕ} (h : Fit ws loops at q rest) where
   pub is_work : (n : ℕ) → Begins (drop at ws) (Ok (Work n)) → (q ≡ work n) × (n ≤ 65535)
   is_work n b =
       let x = of 0 (n ∷ drop 2 (drop at ws)) q rest (sym b ∙ h.is) in
