@@ -8,7 +8,7 @@ use Rattle.trails.specs.declared.store.Store.{Store}
 use Rattle.trails.specs.Stores.{Grown, nodes}
 use Rattle.trails.proofs.Fronts.{grown_on}
 use Rattle.tables.specs.Best.{Both, Table, told}
-use Rattle.tables.specs.Showing.{Shows, width}
+use Rattle.tables.specs.Showing.{Shows}
 use Rattle.tables.specs.Tables.{chose}
 use Rattle.tables.proofs.Chunks.{up_to}
 use Rattle.tables.proofs.Rooms.{room_less, room_chose}
@@ -17,9 +17,6 @@ use Rattle.engine.specs.Passing.{Task, Ready, Came, Goes}
 
 -- by a width w that the code computes, with k of n slots kept
 module _ {w s n : ℕ} (k : ℕ) (xs : List ℕ) (wide : w ≡ s) (fits : s * n ≤ length xs) (less : k ≤ n) where
-  pub behind_fits : w * k ≤ length xs
-  behind_fits = rw wide (let u = up_to s k n less in omega arith)
-
   pub behind_is : take (length xs - w * k) (drop (w * k) xs) ≡ drop (s * k) xs
   behind_is = take_rest xs (w * k) ∙ ap (λ v. drop (v * k) xs) wide
 

@@ -1,5 +1,5 @@
 -- What the whole call tells, with the theorems about tables.
-use Rattle.std.proofs.Common.{◌≡◌, ℕ, zero, suc, ◌+◌, ◌-◌, ◌*◌, ◌<◌, ◌≤◌, List, [], ◌∷◌, ◌++◌, length, take, drop, Ok, Err, Result, Some, None, Option, sym, refl, ap, ◌∙◌, subst, inl, inr, ⊎_elim, mul-suc, arith, length-append, length-drop}
+use Rattle.std.proofs.Common.{◌≡◌, ℕ, zero, suc, ◌+◌, ◌-◌, ◌*◌, ◌<◌, ◌≤◌, List, [], ◌∷◌, length, take, drop, Ok, Err, Result, Some, None, sym, refl, ap, ◌∙◌, subst, inl, inr, ⊎_elim, mul-suc, arith, length-append, length-drop}
 use borrow.Rule.Slice.PartMut.{put_mid}
 use Rattle.std.proofs.lemmas.List.{take_at, length-take-le}
 use Rattle.cycles.specs.Code.{P, Cache, empty}
@@ -18,7 +18,7 @@ use Rattle.engine.specs.declared.pass.Point.{Point}
 use Rattle.engine.specs.declared.tabulate.Tabulated.{Tabulated}
 use Rattle.engine.specs.declared.tabulate.TabulateError.{TabulateError}
 use Rattle.engine.specs.declared.tabulate.TabulateError.TheVariants.{Crowded}
-use Rattle.engine.specs.Passing.{Fit, Task, Ready, Ran, Goes}
+use Rattle.engine.specs.Passing.{Fit, Task, Ready, Goes}
 use Rattle.engine.specs.Tabulating.{RecordsFront, TabulateSays, TabulatePost, asked, behind}
 use Rattle.engine.proofs.Chains.{point, shows_count}
 

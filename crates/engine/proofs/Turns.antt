@@ -1,5 +1,5 @@
 -- How a pass goes through a loop, round by round.
-use Rattle.std.proofs.Common.{◌≡◌, ℕ, suc, ◌+◌, ◌-◌, ◌*◌, ◌<◌, ◌≤◌, max, true, List, ◌∷◌, length, Some, None, Option, sym, ap, ◌∙◌, subst, suc-mul, add-one, arith}
+use Rattle.std.proofs.Common.{◌≡◌, ℕ, suc, ◌+◌, ◌-◌, ◌*◌, ◌<◌, ◌≤◌, max, true, List, ◌∷◌, length, Option, sym, ap, ◌∙◌, subst, suc-mul, add-one, arith}
 use Rattle.cycles.specs.Code.{P, times, Cache}
 use Rattle.cycles.specs.Rows.{row, ok, amount}
 use Rattle.machine.specs.Playing.{still}

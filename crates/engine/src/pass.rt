@@ -103,14 +103,7 @@ fn run_branch(
     ensures ran { (k : TaskOf pass.entry from (drop (width_of (cache_of pass.entry.cache) * keep) slots.old) store.old) → CameOf pass.entry k.p (map (chose told choice) k.T) from (room - keep) (drop (width_of (cache_of pass.entry.cache) * keep) slots.new) store.old store.new result }
 {
     let part = &mut slots[width(pass.cache) * keep..];
-    note_all(
-        part,
-        pass.cache,
-        from.count,
-        store,
-        pass.firsts,
-        choice,
-    );
+    note_all(part, pass.cache, from.count, store, pass.firsts, choice);
     run(pass, from, room - keep, part, store)
 }
 

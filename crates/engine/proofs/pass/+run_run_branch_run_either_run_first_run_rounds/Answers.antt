@@ -1,21 +1,19 @@
-use Rattle.std.proofs.Common.{◌≡◌, ℕ, ◌+◌, ◌-◌, ◌*◌, ◌<◌, ◌≤◌, ◌∷◌, map, length, take, drop, Some, None, sym, refl, ap, ◌∙◌, subst, zero-add, mul-add, arith}
+use Rattle.std.proofs.Common.{◌≡◌, ℕ, ◌+◌, ◌-◌, ◌*◌, ◌<◌, ◌≤◌, ◌∷◌, map, length, drop, Some, None, sym, refl, ap, ◌∙◌, subst, mul-add, arith}
 use Rattle.cycles.specs.Code.{P, work, touch, skip, times}
 use Rattle.cycles.specs.Reading.{cache}
-use Rattle.cycles.specs.Rows.{amount}
 use Rattle.cycles.specs.declared.geometry.Geometry.{Geometry}
 use Rattle.machine.specs.Around.{around}
 use Rattle.machine.proofs.Times.{Quick}
 use Rattle.trails.specs.Stores.{nodes}
-use Rattle.tables.specs.Best.{Room, told}
-use Rattle.tables.specs.Showing.{Shows, Showing, firsts_of, width}
-use Rattle.tables.specs.Tables.{chose, touched}
-use Rattle.tables.proofs.Chunks.{up_to}
+use Rattle.tables.specs.Best.{told}
+use Rattle.tables.specs.Showing.{Shows, firsts_of, width}
+use Rattle.tables.specs.Tables.{touched}
 use Rattle.tables.proofs.Rooms.{room_less}
-use Rattle.engine.specs.Passing.{Fit, Task, Ready, Came, Goes, Forks, TaskOf, CameOf, GoesOn}
-use Rattle.engine.proofs.Behind.{behind_fits, behind_is, behind_room, behind_back, behind_front, ready_noted, came_noted}
+use Rattle.engine.specs.Passing.{Fit, Came, TaskOf, GoesOn}
+use Rattle.engine.proofs.Behind.{behind_is, behind_room, behind_back, behind_front, ready_noted, came_noted}
 use Rattle.engine.proofs.Branches.{shows_dedup, crowded_copies, copies, task_one as one, ready_one, crowded_first, forked, task_two as two, second_later, ready_two, crowded_second, came_both}
 use Rattle.engine.proofs.Chains.{onward_start, onward_end, onward_seq, second_at, seq_crowded, spends, ready_on, ready_first, point, came_plain, slots_fit, ready_as}
-use Rattle.engine.proofs.Parts.{is_work, is_skip, is_touch, is_seq, is_either, is_loop, body_fits, work_long, touch_long, skip_long}
+use Rattle.engine.proofs.Parts.{is_work, is_skip, is_touch, is_seq, is_either, is_loop, body_fits}
 use Rattle.engine.proofs.Turns.{turned_start, ready_round, came_round, turned_more, turned_crowded, turned_all, came_quiet}
 use Rattle.engine.proofs.pass.+run_run_branch_run_either_run_first_run_rounds.Goals as goal
 
@@ -45,11 +43,6 @@ run-spend_all-requires t c =
       room = spends o _ w.0 refl c.requires.ready.room;
     }
 
-pub run-overflow_add-here : goal.run-overflow_add-here
-run-overflow_add-here t c =
-    let w = work_long (c.loop-cycles.invariant.onward c.requires.ready.task).task.fit c.in-Work.cycles c.in-Work.ensures in
-    omega arith
-
 pub run-returns-in-Work : goal.run-returns-in-Work
 run-returns-in-Work t c k =
     let o = c.loop-cycles.invariant.onward k in
@@ -73,16 +66,6 @@ run-touch_all-requires t c =
       room = spends o _ w.0 refl c.requires.ready.room;
     }
 
-pub run-overflow_add-here-in-Touch : goal.run-overflow_add-here-in-Touch
-run-overflow_add-here-in-Touch t c =
-    let w = touch_long (c.loop-cycles.invariant.onward c.requires.ready.task).task.fit c.in-Touch.base c.in-Touch.steps.now c.in-Touch.ensures in
-    omega arith
-
-pub run-overflow_add-here-in-Touch-2 : goal.run-overflow_add-here-in-Touch-2
-run-overflow_add-here-in-Touch-2 t c =
-    let w = touch_long (c.loop-cycles.invariant.onward c.requires.ready.task).task.fit c.in-Touch.base c.in-Touch.steps.now c.in-Touch.ensures in
-    omega arith
-
 pub run-returns-in-Touch : goal.run-returns-in-Touch
 run-returns-in-Touch t c k =
     let o = c.loop-cycles.invariant.onward k in
@@ -90,11 +73,6 @@ run-returns-in-Touch t c k =
     let w = is_touch q.fit c.in-Touch.base c.in-Touch.steps.now c.in-Touch.ensures in
     onward_end o c.touch_all.new.slots c.loop-cycles.store (Some c.to-in-Touch.result) (came_plain (touch c.in-Touch.base c.in-Touch.steps.now) c.to-in-Touch.result _ c.touch_all.new.slots q c.to-in-Touch.ensures w.0 refl (omega arith) c.loop-cycles.invariant.count
     (subst (λ v. Shows (cache c.args.pass.cache) (firsts_of c.args.pass.firsts) (nodes c.loop-cycles.store) c.loop-cycles.here.count c.touch_all.new.slots (map (touched told (cache c.args.pass.cache) v) q.T)) c.address-address.ensures.value (c.touch_all.ensures _ _ q.T q.shows)))
-
-pub run-overflow_add-here-in-Seq : goal.run-overflow_add-here-in-Seq
-run-overflow_add-here-in-Seq t c =
-    let w = (is_seq (c.loop-cycles.invariant.onward c.requires.ready.task).task.fit c.in-Seq.ensures).3.within in
-    omega arith
 
 pub run-run-requires : goal.run-run-requires
 run-run-requires t c =
@@ -133,9 +111,6 @@ pub run-returns-in-Loop : goal.run-returns-in-Loop
 run-returns-in-Loop t c k =
     let o = c.loop-cycles.invariant.onward k in
     onward_end o c.run_rounds.new.slots c.run_rounds.new.store c.run_rounds.result (c.run_rounds.ensures o.task)
-
-pub run-overflow_add-here-in-Skip : goal.run-overflow_add-here-in-Skip
-run-overflow_add-here-in-Skip t c = omega (arith, skip_long (c.loop-cycles.invariant.onward c.requires.ready.task).task.fit c.in-Skip.ensures)
 
 pub run-returns-in-Skip : goal.run-returns-in-Skip
 run-returns-in-Skip t c k =
@@ -205,22 +180,6 @@ run_rounds-returns t c k =
     let (b, e, f, few, nested) = is_loop k.fit c.args.count c.requires.rounds in
     turned_all (c.loop-round.invariant.turned k b e) c.to-2.result c.look_over-body.result.end c.to-2.ensures (omega arith) e (c.look_over-body.ensures.ends b k.rest f.is) c.loop-round.invariant.count
 
--- the slots that a branch keeps lie within the words
-kept : (t : ℕ) (c : goal.run_branch-After-width t) → c.width.result * c.args.keep ≤ length c.args.slots.now
-kept t c = behind_fits c.args.keep c.args.slots.now c.width.ensures c.requires.slots (omega (arith, c.requires.keeps))
-
-pub run_branch-overflow_mul-part : goal.run_branch-overflow_mul-part
-run_branch-overflow_mul-part t c = omega (arith, kept t c)
-
-pub run_branch-offset_bounds-slots-width : goal.run_branch-offset_bounds-slots-width
-run_branch-offset_bounds-slots-width t c = omega (arith, kept t c)
-
-pub run_branch-slice_bounds-part-count : goal.run_branch-slice_bounds-part-count
-run_branch-slice_bounds-part-count t c = kept t c
-
-pub run_branch-slice_bounds-part-start : goal.run_branch-slice_bounds-part-start
-run_branch-slice_bounds-part-start t c = omega (arith, kept t c)
-
 pub run_branch-note_all-requires : goal.run_branch-note_all-requires
 run_branch-note_all-requires t c =
     let r = c.requires.ready in
@@ -243,11 +202,6 @@ run_branch-returns t c =
       kept = behind_front c.args.keep c.args.slots.now c.width.ensures c.requires.slots less c.run.new.slots l;
       ran = λ k. rw (behind_back c.args.keep c.args.slots.now c.width.ensures c.requires.slots less c.run.new.slots l) (came_noted c.args.choice (drop (w * c.args.keep) c.args.slots.now) c.note_all.new.slots (rw e at n.shows) _ _ c.run.new.slots c.run.new.store c.run.result k n.grown c.run.ensures);
     }
-
-pub run_first-gather-count-requires : goal.run_first-gather-count-requires
-run_first-gather-count-requires t c =
-    let z : 0 + c.args.from.count ≡ c.args.from.count = zero-add c.args.from.count in
-    record { order = omega arith; fits = rw z (slots_fit (width (cache c.args.pass.cache)) _ c.args.slots.now c.requires.ready.count c.requires.ready.lent refl) }
 
 pub run_first-returns-then-room-count : goal.run_first-returns-then-room-count
 run_first-returns-then-room-count t c k = crowded_copies k c.requires.either (around c.args.pass.rounds.at c.args.pass.rounds.depth) c.args.room c.gather-count.new.slots c.gather-count.result (shows_dedup _ _ (nodes c.args.store.now) c.args.from.count c.gather-count.result c.args.slots.now c.gather-count.new.slots k.T c.gather-count.ensures.shows k.shows) (omega (arith, c.if-room-count.true))

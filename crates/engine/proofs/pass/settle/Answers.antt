@@ -1,27 +1,11 @@
-use Rattle.std.proofs.Common.{◌≡◌, ℕ, ◌+◌, ◌*◌, ◌≤◌, length, drop, sym, ap, ◌∙◌, subst, zero-add, mul-add, arith, length-drop}
+use Rattle.std.proofs.Common.{◌≡◌, ℕ, ◌+◌, ◌*◌, length, drop, sym, ap, ◌∙◌, subst, zero-add, mul-add, arith, length-drop}
 use Rattle.cycles.specs.Reading.{cache}
 use Rattle.tables.specs.Best.{told}
 use Rattle.tables.specs.Showing.{Shows, width}
 use Rattle.tables.specs.Tables.{dedup}
-use Rattle.engine.proofs.Behind.{behind_fits, behind_is, behind_back, behind_front}
+use Rattle.engine.proofs.Behind.{behind_is, behind_back, behind_front}
 use Rattle.engine.proofs.Branches.{shows_dedup}
 use Rattle.engine.proofs.pass.settle.Goals as goal
-
--- the slots that are kept lie within the words
-kept : (c : goal.After-width) → c.width.result * c.args.keep ≤ length c.args.slots.now
-kept c = behind_fits c.args.keep c.args.slots.now c.width.ensures c.requires (omega arith)
-
-pub overflow_mul-width : goal.overflow_mul-width
-overflow_mul-width c = omega (arith, kept c)
-
-pub offset_bounds-slots-width : goal.offset_bounds-slots-width
-offset_bounds-slots-width c = omega (arith, kept c)
-
-pub slice_bounds-gather-count : goal.slice_bounds-gather-count
-slice_bounds-gather-count c = kept c
-
-pub slice_bounds-gather-start : goal.slice_bounds-gather-start
-slice_bounds-gather-start c = omega (arith, kept c)
 
 pub gather-requires : goal.gather-requires
 gather-requires c =

@@ -1,11 +1,10 @@
-use Rattle.std.proofs.Common.{◌≡◌, ℕ, suc, ◌-◌, ◌*◌, ◌≤◌, length, Some, None, Ok, rules, subst, arith}
-use Rattle.std.proofs.lemmas.List.{length-take-le}
+use Rattle.std.proofs.Common.{◌≡◌, length, Some, None, Ok, rules, subst, arith}
 use Rattle.std.proofs.lemmas.Result.{err_from_is_err_and}
 use Rattle.cycles.specs.Reading.{cache}
-use Rattle.tables.specs.Showing.{firsts_of, width}
-use Rattle.engine.specs.declared.tabulate.TabulateError.TheVariants.{Few, Crowded}
+use Rattle.tables.specs.Showing.{firsts_of}
+use Rattle.engine.specs.declared.tabulate.TabulateError.TheVariants.{Crowded}
 use Rattle.engine.specs.Tabulating.{TabulatePost}
-use Rattle.engine.proofs.Promised.{promised, one_fits, told_crowded, whole_ready, whole_done, whole_crowded}
+use Rattle.engine.proofs.Promised.{promised, told_crowded, whole_ready, whole_done, whole_crowded}
 use Rattle.engine.proofs.tabulate.tabulate.Goals as goal
 
 pub returns-in_err-cache : goal.returns-in_err-cache
@@ -18,15 +17,6 @@ returns-then-slots-width c = let s = c.in_ok-cache.ensures.says in promised _ (c
 
 pub returns-then-room-eq0 : goal.returns-then-room-eq0
 returns-then-room-eq0 c = told_crowded c.in_ok-cache.ensures.says.1 (omega (arith, c.if-room-eq0.true))
-
-pub slice_bounds-begin-end : goal.slice_bounds-begin-end
-slice_bounds-begin-end c = omega (arith, one_fits (width (cache c.in_ok-cache.cache)) c.args.most c.width.ensures c.if-slots-width.false c.if-room-eq0.false, c.width-2.ensures)
-
-pub begin-requires : goal.begin-requires
-begin-requires c =
-    let w : ℕ = width (cache c.in_ok-cache.cache) in
-    let z : c.width-2.result - 0 ≡ w = omega (arith, c.width-2.ensures) in
-    rw z (omega (arith, length-take-le w c.args.slots.now (one_fits w c.args.most c.width.ensures c.if-slots-width.false c.if-room-eq0.false)))
 
 pub run-requires : goal.run-requires
 run-requires c = let s = c.in_ok-cache.ensures.says in record { ready = whole_ready s.1 (firsts_of c.args.firsts) c.args.slots.now c.begin.new.slot c.width-2.result c.args.most c.width-2.ensures c.if-room-eq0.false (rw c.width.ensures at c.if-slots-width.false) c.begin.auto.slot (c.begin.ensures _) c.new-trails.result _ c.none.ensures.1 }
