@@ -4,21 +4,19 @@ use borrow.Rule.Slice.PartMut.{put_mid}
 use Rattle.std.proofs.lemmas.List.{take_rest, take_at, drop_at, drop_all, length-take-le}
 use Rattle.cycles.specs.Code.{Cache}
 use Rattle.cycles.specs.Rows.{amount}
+use Rattle.trails.specs.declared.store.Store.{Store}
+use Rattle.trails.specs.Stores.{Grown, nodes}
+use Rattle.trails.proofs.Fronts.{grown_on}
 use Rattle.tables.specs.Best.{Both, Table, told}
-use Rattle.tables.specs.Showing.{Shows, Grown}
+use Rattle.tables.specs.Showing.{Shows}
 use Rattle.tables.specs.Tables.{chose}
 use Rattle.tables.proofs.Chunks.{up_to}
-use Rattle.tables.proofs.Matching.{grown_on}
 use Rattle.tables.proofs.Rooms.{room_less, room_chose}
 use Rattle.engine.specs.declared.pass.Point.{Point}
 use Rattle.engine.specs.Passing.{Task, Ready, Came, Goes}
-use Rattle.engine.proofs.Chains.{point}
 
 -- by a width w that the code computes, with k of n slots kept
-module _ (w s k n : ℕ) (xs : List ℕ) (wide : w ≡ s) (less : k ≤ n) (fits : s * n ≤ length xs) where
-  pub behind_fits : w * k ≤ length xs
-  behind_fits = rw wide (let u = up_to s k n less in omega arith)
-
+module _ {w s n : ℕ} (k : ℕ) (xs : List ℕ) (wide : w ≡ s) (fits : s * n ≤ length xs) (less : k ≤ n) where
   pub behind_is : take (length xs - w * k) (drop (w * k) xs) ≡ drop (s * k) xs
   behind_is = take_rest xs (w * k) ∙ ap (λ v. drop (v * k) xs) wide
 
@@ -38,19 +36,19 @@ module _ (w s k n : ℕ) (xs : List ℕ) (wide : w ≡ s) (less : k ≤ n) (fits
     behind_front = let u = up_to s k n less in rw wide (take_at (take (s * k) xs) _ (s * k) (length-take-le (s * k) xs (omega arith)))
 
 -- a branch after its choice is noted
-module _ (c : Cache) (a : Both ℕ) (rs ws : List ℕ) (loops slots : ℕ) (f : Point) (b : Bool) (top : ℕ) (xs ys st st' : List ℕ) (noted : (T : Table) → Shows c a (take f.top st) f.count xs T → Shows c a (take top st') f.count ys (map (chose told b) T)) (grown : Grown f.top top st st') where
-  pub ready_noted : Ready c a ws loops f slots 1 xs st → Ready c a ws loops (point f.at f.count top) slots 0 ys st'
-  ready_noted r =
+module _ {c : Cache} {a : Both ℕ} {f : Point} {st st' : Store} (b : Bool) (xs ys : List ℕ) (noted : (T : Table) → Shows c a (nodes st) f.count xs T → Shows c a (nodes st') f.count ys (map (chose told b) T)) where
+  pub ready_noted : {ws : List ℕ} {loops slots : ℕ} → length ys ≡ length xs → Ready c a ws loops f slots 1 xs st → Ready c a ws loops f slots 0 ys st'
+  ready_noted l r =
       let k = r.task in
       record {
         task = record { p = k.p; rest = k.rest; T = map (chose told b) k.T; fit = k.fit; shows = noted k.T k.shows };
         room = room_chose (amount k.p + 0) b k.T (room_less _ _ k.T (omega arith) r.room);
         count = r.count;
-        stored = grown.within;
+        lent = omega (arith, r.lent);
       }
 
-  pub came_noted : (zs st'' : List ℕ) (r : Option Point) (k : Task c a ws loops f xs st) → Goes c a rs ws loops (point f.at f.count top) slots ys zs st' st'' r → Came c a rs k.p (map (chose told b) k.T) f slots zs st st'' r
-  came_noted zs st'' None k m = m (record { p = k.p; rest = k.rest; T = map (chose told b) k.T; fit = k.fit; shows = noted k.T k.shows })
-  came_noted zs st'' (Some t) k m =
+  pub came_noted : {ws : List ℕ} {loops : ℕ} (rs : List ℕ) (slots : ℕ) (zs : List ℕ) (st'' : Store) (r : Option Point) (k : Task c a ws loops f xs st) → Grown st st' → Goes c a rs ws loops f slots ys zs st' st'' r → Came c a rs k.p (map (chose told b) k.T) f slots zs st st'' r
+  came_noted rs slots zs st'' None k grown m = m (record { p = k.p; rest = k.rest; T = map (chose told b) k.T; fit = k.fit; shows = noted k.T k.shows })
+  came_noted rs slots zs st'' (Some t) k grown m =
       let x = m (record { p = k.p; rest = k.rest; T = map (chose told b) k.T; fit = k.fit; shows = noted k.T k.shows }) in
-      record { ends = x.ends; grown = grown_on f.top top t.top st st' st'' grown x.grown; count = x.count; enough = x.enough; shows = x.shows }
+      record { ends = x.ends; grown = grown_on st st' st'' grown x.grown; count = x.count; enough = x.enough; shows = x.shows }

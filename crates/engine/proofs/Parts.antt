@@ -9,7 +9,7 @@ use Rattle.cycles.specs.Rows.{row, ok, small}
 use Rattle.cycles.proofs.Unique.{of, same_parts}
 use Rattle.engine.specs.Passing.{Fit}
 
-module _ (ws : List ℕ) (loops at : ℕ) (q : P) (rest : List ℕ) (h : Fit ws loops at q rest) where
+module _ {ws : List ℕ} {loops at : ℕ} {q : P} {rest : List ℕ} (h : Fit ws loops at q rest) where
   pub is_work : (n : ℕ) → Begins (drop at ws) (Ok (Work n)) → (q ≡ work n) × (n ≤ 65535)
   is_work n b =
       let x = of 0 (n ∷ drop 2 (drop at ws)) q rest (sym b ∙ h.is) in
@@ -68,16 +68,6 @@ module _ (ws : List ℕ) (loops at : ℕ) (q : P) (rest : List ℕ) (h : Fit ws 
       let o = and_parts (ltb loops 8) (leb n 4096 && ok (suc loops) 0 x.1) (sym (ap (ok loops 0) e) ∙ h.fine) in
       let p = and_parts (leb n 4096) (ok (suc loops) 0 x.1) o.1 in
       (x.1, e, record { is = sym (drop-drop 2 at ws) ∙ cc; within = omega (arith, ap length b, length-drop at ws, h.within); fine = rw add-one p.1 }, leb-true n 4096 p.0, ltb-true loops 8 o.0)
-
-  -- a work and a touch within the words
-  pub work_long : (n : ℕ) → Begins (drop at ws) (Ok (Work n)) → at + 2 ≤ length ws
-  work_long n b = omega (arith, ap length b, length-drop at ws, h.within)
-
-  pub touch_long : (b : ℕ) (ks : List ℕ) → drop at ws ≡ 1 ∷ b ∷ length ks ∷ (ks ++ drop (3 + length ks) (drop at ws)) → at + (3 + length ks) ≤ length ws
-  touch_long b ks n = omega (arith, ap length n, length-append ks (drop (3 + length ks) (drop at ws)), length-drop at ws, h.within)
-
-  pub skip_long : Begins (drop at ws) (Ok Skip) → at + 1 ≤ length ws
-  skip_long b = omega (arith, ap length b, length-drop at ws, h.within)
 
   -- the body of a loop, by whatever it is known to be
   pub body_fits : (n : ℕ) (b : P) → Begins (drop at ws) (Ok (Loop n)) → q ≡ times n b → Fit ws (loops + 1) (at + 2) b rest

@@ -1,10 +1,9 @@
 ghost use Rattle.std.specs.Prelude.{◌≡◌, ℕ, ◌+◌, ◌-◌, ◌*◌, ◌<◌, ◌≤◌, List, map, length, take, drop, Ok};
 ghost use Rattle.cycles.specs.declared.node.Node.TheVariants.{Either, Loop};
 ghost use Rattle.cycles.specs.Reading.{Begins, cache as cache_of};
-ghost use Rattle.engine.specs.Passing.{Came, Forks, Goes, Ready, Task};
-ghost use Rattle.machine.specs.Around.{around};
+ghost use Rattle.engine.specs.Passing.{CameOf, ForksOn, GoesOn, ReadyFor, TaskOf};
 ghost use Rattle.tables.specs.Best.{Both, Table, told};
-ghost use Rattle.tables.specs.Showing.{Shows, firsts_of, width as width_of};
+ghost use Rattle.tables.specs.Showing.{Shows, width as width_of};
 ghost use Rattle.tables.specs.Tables.{chose, dedup};
 
 use cycles::geometry::Geometry;
@@ -13,44 +12,42 @@ use machine::rounds::Rounds;
 use machine::survey::{look_over, node_at};
 use tables::slot::{Firsts, width};
 use tables::table::{duplicate, exchange, gather, note_all, spend_all, touch_all};
+use trails::Store;
 
-// Where a pass over a program is: the word that is next, how many entries the table has, and how many words of the store are used.
-#[derive(Clone, Copy)]
+// Where a pass over a program is: the word that is next, and how many entries the table has.
+#[derive(Clone, Copy, PartialEq, Eq, Debug)]
 pub struct Point {
     pub at: usize,
     pub count: usize,
-    pub top: usize,
 }
 
 impl Point {
+    // At the first word behind the cache's six, with the entry of the empty cache.
+    pub const START: Point = Point { at: 6, count: 1 };
+
     // At another word.
     fn to(self, at: usize) -> Point
-        ensures { result ≡ record { at = at; count = self.count; top = self.top } }
+        ensures { result ≡ record { at = at; count = self.count } }
     {
-        Point {
-            at,
-            count: self.count,
-            top: self.top,
-        }
+        Point { at, ..self }
     }
 }
 
-// Where a pass is between the branches of an either: the second branch's first word, how many entries there are behind the first branch and,
-// behind those, from before the either, and how many words of the store are used.
-#[derive(Clone, Copy)]
+// Where a pass is between the branches of an either: at the second branch, with the entries from before the either, and how many entries there are
+// before those, behind the first branch.
+#[derive(Clone, Copy, PartialEq, Eq, Debug)]
 pub struct Fork {
-    pub at: usize,
+    pub second: Point,
     pub first: usize,
-    pub count: usize,
-    pub top: usize,
 }
 
-// What a pass goes over: words that are a cache and a program, and from which choice on it records.
+// What a pass goes over: words that are a cache and a program, from which choice on it records, and the rounds of the loops around.
 #[derive(Clone, Copy)]
 pub struct Pass<'a> {
     pub words: &'a [u32],
     pub cache: Geometry,
     pub firsts: Firsts,
+    pub rounds: Rounds,
 }
 
 // Runs the program that stands at a point on a table that has room for so many entries; the second of two is gone on to in the loop. None where the room does not suffice.
@@ -58,14 +55,12 @@ pub struct Pass<'a> {
 pub fn run(
     pass: Pass<'_>,
     from: Point,
-    rounds: Rounds,
     room: usize,
     slots: &mut [u32],
-    store: &mut [u32],
+    store: &mut Store<'_>,
 ) -> Option<Point>
-    requires ready { Ready (cache_of pass.cache) (firsts_of pass.firsts) pass.words.now rounds.depth from room 0 slots.old store.old }
-    requires slots { width_of (cache_of pass.cache) * room ≤ length slots.old }
-    ensures { Goes (cache_of pass.entry.cache) (firsts_of pass.entry.firsts) (around rounds.at rounds.depth) pass.entry.words.now rounds.depth from room slots.old slots.new store.old store.new result }
+    requires ready { ReadyFor pass from room 0 slots.old store.old }
+    ensures { GoesOn pass.entry from room slots.old slots.new store.old store.new result }
 {
     let mut here = from;
     loop {
@@ -75,16 +70,16 @@ pub fn run(
                 return Some(here.to(here.at + 2));
             }
             Node::Touch { base, steps } => {
-                let address = rounds.address(base, steps);
+                let address = pass.rounds.address(base, steps);
                 touch_all(slots, pass.cache, here.count, address);
                 return Some(here.to(here.at + 3 + steps.len()));
             }
             Node::Seq => {
                 let first = here.to(here.at + 1);
-                here = run(pass, first, rounds, room, slots, store)?;
+                here = run(pass, first, room, slots, store)?;
             }
-            Node::Either => return run_either(pass, here, rounds, room, slots, store),
-            Node::Loop(count) => return run_rounds(pass, here, count, rounds, room, slots, store),
+            Node::Either => return run_either(pass, here, room, slots, store),
+            Node::Loop(count) => return run_rounds(pass, here, count, room, slots, store),
             Node::Skip => return Some(here.to(here.at + 1)),
         }
     }
@@ -97,33 +92,19 @@ fn run_branch(
     from: Point,
     choice: bool,
     keep: usize,
-    rounds: Rounds,
     room: usize,
     slots: &mut [u32],
-    store: &mut [u32],
+    store: &mut Store<'_>,
 ) -> Option<Point>
     requires keeps { keep + from.count ≤ room }
     requires slots { width_of (cache_of pass.cache) * room ≤ length slots.old }
-    requires ready { Ready (cache_of pass.cache) (firsts_of pass.firsts) pass.words.now rounds.depth from (room - keep) 1 (drop (width_of (cache_of pass.cache) * keep) slots.old) store.old }
+    requires ready { ReadyFor pass from (room - keep) 1 (drop (width_of (cache_of pass.cache) * keep) slots.old) store.old }
     ensures kept { take (width_of (cache_of pass.entry.cache) * keep) slots.new ≡ take (width_of (cache_of pass.entry.cache) * keep) slots.old }
-    ensures ran { (k : Task (cache_of pass.entry.cache) (firsts_of pass.entry.firsts) pass.entry.words.now rounds.depth from (drop (width_of (cache_of pass.entry.cache) * keep) slots.old) store.old) → Came (cache_of pass.entry.cache) (firsts_of pass.entry.firsts) (around rounds.at rounds.depth) k.p (map (chose told choice) k.T) from (room - keep) (drop (width_of (cache_of pass.entry.cache) * keep) slots.new) store.old store.new result }
+    ensures ran { (k : TaskOf pass.entry from (drop (width_of (cache_of pass.entry.cache) * keep) slots.old) store.old) → CameOf pass.entry k.p (map (chose told choice) k.T) from (room - keep) (drop (width_of (cache_of pass.entry.cache) * keep) slots.new) store.old store.new result }
 {
     let part = &mut slots[width(pass.cache) * keep..];
-    let top = note_all(
-        part,
-        pass.cache,
-        from.count,
-        store,
-        from.top,
-        pass.firsts,
-        choice,
-    );
-    let noted = Point {
-        at: from.at,
-        count: from.count,
-        top,
-    };
-    run(pass, noted, rounds, room - keep, part, store)
+    note_all(part, pass.cache, from.count, store, pass.firsts, choice);
+    run(pass, from, room - keep, part, store)
 }
 
 // Keeps each state once in the slots behind those that are kept.
@@ -141,15 +122,13 @@ fn settle(slots: &mut [u32], cache: Geometry, keep: usize, count: usize) -> usiz
 fn run_first(
     pass: Pass<'_>,
     from: Point,
-    rounds: Rounds,
     room: usize,
     slots: &mut [u32],
-    store: &mut [u32],
+    store: &mut Store<'_>,
 ) -> Option<Fork>
-    requires ready { Ready (cache_of pass.cache) (firsts_of pass.firsts) pass.words.now rounds.depth from room 0 slots.old store.old }
-    requires slots { width_of (cache_of pass.cache) * room ≤ length slots.old }
+    requires ready { ReadyFor pass from room 0 slots.old store.old }
     requires either { Begins (drop from.at pass.words.now) (Ok Either) }
-    ensures { (k : Task (cache_of pass.entry.cache) (firsts_of pass.entry.firsts) pass.entry.words.now rounds.depth from slots.old store.old) → Forks (cache_of pass.entry.cache) (firsts_of pass.entry.firsts) (around rounds.at rounds.depth) pass.entry.words.now rounds.depth room k.p k.T from slots.new store.old store.new result }
+    ensures { ForksOn pass.entry from room slots.old slots.new store.old store.new result }
 {
     let count = gather(slots, pass.cache, 0, 0, from.count);
     if room - count < count {
@@ -159,16 +138,13 @@ fn run_first(
     let copy = Point {
         at: from.at + 1,
         count,
-        top: from.top,
     };
-    let end = run_branch(pass, copy, true, count, rounds, room, slots, store)?;
+    let end = run_branch(pass, copy, true, count, room, slots, store)?;
     let first = settle(slots, pass.cache, count, end.count);
     exchange(slots, pass.cache, count, first);
     Some(Fork {
-        at: end.at,
+        second: Point { count, ..end },
         first,
-        count,
-        top: end.top,
     })
 }
 
@@ -177,29 +153,18 @@ fn run_first(
 fn run_either(
     pass: Pass<'_>,
     from: Point,
-    rounds: Rounds,
     room: usize,
     slots: &mut [u32],
-    store: &mut [u32],
+    store: &mut Store<'_>,
 ) -> Option<Point>
-    requires ready { Ready (cache_of pass.cache) (firsts_of pass.firsts) pass.words.now rounds.depth from room 0 slots.old store.old }
-    requires slots { width_of (cache_of pass.cache) * room ≤ length slots.old }
+    requires ready { ReadyFor pass from room 0 slots.old store.old }
     requires either { Begins (drop from.at pass.words.now) (Ok Either) }
-    ensures { Goes (cache_of pass.entry.cache) (firsts_of pass.entry.firsts) (around rounds.at rounds.depth) pass.entry.words.now rounds.depth from room slots.old slots.new store.old store.new result }
+    ensures { GoesOn pass.entry from room slots.old slots.new store.old store.new result }
 {
-    let fork = run_first(pass, from, rounds, room, slots, store)?;
-    let origin = Point {
-        at: fork.at,
-        count: fork.count,
-        top: fork.top,
-    };
-    let end = run_branch(pass, origin, false, fork.first, rounds, room, slots, store)?;
+    let fork = run_first(pass, from, room, slots, store)?;
+    let end = run_branch(pass, fork.second, false, fork.first, room, slots, store)?;
     let count = gather(slots, pass.cache, fork.first, fork.first, end.count);
-    Some(Point {
-        at: end.at,
-        count,
-        top: end.top,
-    })
+    Some(Point { count, ..end })
 }
 
 // Runs the loop that stands at a point, round by round, unless its body does nothing.
@@ -208,15 +173,13 @@ fn run_rounds(
     pass: Pass<'_>,
     from: Point,
     count: u32,
-    rounds: Rounds,
     room: usize,
     slots: &mut [u32],
-    store: &mut [u32],
+    store: &mut Store<'_>,
 ) -> Option<Point>
-    requires ready { Ready (cache_of pass.cache) (firsts_of pass.firsts) pass.words.now rounds.depth from room 0 slots.old store.old }
-    requires slots { width_of (cache_of pass.cache) * room ≤ length slots.old }
+    requires ready { ReadyFor pass from room 0 slots.old store.old }
     requires rounds { Begins (drop from.at pass.words.now) (Ok (Loop count)) }
-    ensures { Goes (cache_of pass.entry.cache) (firsts_of pass.entry.firsts) (around rounds.at rounds.depth) pass.entry.words.now rounds.depth from room slots.old slots.new store.old store.new result }
+    ensures { GoesOn pass.entry from room slots.old slots.new store.old store.new result }
 {
     let start = from.at + 2;
     let body = look_over(pass.words, start);
@@ -225,14 +188,11 @@ fn run_rounds(
     }
     let mut here = from;
     for round in 0..count {
-        here = run(
-            pass,
-            here.to(start),
-            rounds.inside(round),
-            room,
-            slots,
-            store,
-        )?;
+        let inside = Pass {
+            rounds: pass.rounds.inside(round),
+            ..pass
+        };
+        here = run(inside, here.to(start), room, slots, store)?;
     }
     Some(here.to(body.end))
 }

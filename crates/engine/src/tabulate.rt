@@ -1,26 +1,54 @@
-ghost use Rattle.std.specs.Prelude.{◌*◌, length};
+ghost use Rattle.std.specs.Prelude.{◌≡◌, ◌*◌, length};
 ghost use Rattle.engine.specs.Tabulating.{TabulatePost};
+ghost use Rattle.engine.specs.declared.tabulate.TabulateError.TheVariants.{NoProgram};
 ghost use Rattle.tables.specs.Showing.{firsts_of};
 
 use crate::pass::{Pass, Point, run};
+use cycles::fault::Fault;
 use cycles::reader::read;
 use machine::rounds::Rounds;
+use std::fmt;
 use tables::slot::{Firsts, begin, width};
+use trails::Store;
 
-// How a pass over a program came out.
-#[derive(Clone, Copy)]
-pub enum Tabulated {
-    // how many entries the table has, and how many words of the store its trails take
-    Done(usize, usize),
-    // more entries are asked for than allowed
-    Crowded,
-    NoProgram,
-    // fewer words were lent for the slots than the entries allowed take
-    Few,
+// A table that is done: how many entries it has, and how many words of the store its trails take.
+#[derive(Clone, Copy, PartialEq, Eq, Debug)]
+pub struct Tabulated {
+    pub entries: usize,
+    pub top: usize,
 }
 
-// The first word of the program, behind the cache's.
-const PROGRAM: usize = 6;
+// Why there is no table.
+#[derive(Clone, Copy, PartialEq, Eq, Debug)]
+pub enum TabulateError {
+    NoProgram(Fault),
+    // fewer words were lent for the slots than the entries allowed take
+    Few,
+    // more entries are asked for than allowed
+    Crowded,
+}
+
+impl From<Fault> for TabulateError {
+    ghost from_gives = { λ f e. e ≡ NoProgram f };
+
+    fn from(fault: Fault) -> TabulateError {
+        TabulateError::NoProgram(fault)
+    }
+}
+
+impl fmt::Display for TabulateError {
+    fn fmt<W: fmt::Write>(&self, f: &mut fmt::Formatter<W>) -> fmt::Result {
+        match *self {
+            TabulateError::NoProgram(fault) => write!(
+                f,
+                "word {} counted from 0: {}",
+                fault.place, fault.rule
+            ),
+            TabulateError::Few => f.write_str("fewer words than the entries allowed take"),
+            TabulateError::Crowded => f.write_str("more entries than allowed"),
+        }
+    }
+}
 
 // Computes the table behind a program from the empty cache, in lent words: at most so many entries in the slots, and their trails in the store.
 pub fn tabulate<'a>(
@@ -29,32 +57,28 @@ pub fn tabulate<'a>(
     most: u32,
     slots: &mut [u32],
     store: &mut [u32],
-) -> Tabulated
+) -> Result<Tabulated, TabulateError>
     ensures { TabulatePost words.now (firsts_of firsts) most (length slots.old) slots.new store.new result }
 {
-    let Ok(cache) = read(words) else {
-        return Tabulated::NoProgram;
-    };
+    let cache = read(words)?;
     let room = most as usize;
     if slots.len() < width(cache) * room {
-        return Tabulated::Few;
+        return Err(TabulateError::Few);
     }
     if room == 0 {
-        return Tabulated::Crowded;
+        return Err(TabulateError::Crowded);
     }
     begin(&mut slots[0..width(cache)], cache);
     let pass = Pass {
         words,
         cache,
         firsts,
+        rounds: Rounds::none(),
     };
-    let start = Point {
-        at: PROGRAM,
-        count: 1,
-        top: 0,
-    };
-    let Some(end) = run(pass, start, Rounds::none(), room, slots, store) else {
-        return Tabulated::Crowded;
-    };
-    Tabulated::Done(end.count, end.top)
+    let mut trails = Store::new(store);
+    let end = run(pass, Point::START, room, slots, &mut trails).ok_or(TabulateError::Crowded)?;
+    Ok(Tabulated {
+        entries: end.count,
+        top: trails.top,
+    })
 }

@@ -1,11 +1,11 @@
 -- The best entries of the table behind a program, and what is told of them.
-use Rattle.std.proofs.Common.{◌≡◌, ℕ, zero, suc, ◌+◌, ◌-◌, ◌*◌, ◌<◌, ◌≤◌, Bool, true, false, List, [], ◌∷◌, ◌++◌, map, length, take, drop, sym, refl, ap, ◌∙◌, subst, append_assoc, arith, length-append, length-drop}
+use Rattle.std.proofs.Common.{◌≡◌, ℕ, zero, suc, ◌+◌, ◌-◌, ◌*◌, ◌<◌, ◌≤◌, Bool, true, false, List, [], ◌∷◌, ◌++◌, map, length, take, drop, Ok, Err, Result, sym, refl, ap, ◌∙◌, subst, append_assoc, arith, length-append, length-drop}
 use borrow.Rule.Slice.PartMut.{put_mid}
 use Rattle.std.proofs.lemmas.List.{take_at, drop_at, drop-drop, length-take-le}
 use Rattle.cycles.specs.Code.{P, Cache}
 use Rattle.cycles.specs.Rows.{Reads}
 use Rattle.cycles.specs.Says.{Longest, Shortest, bits, TimedSays}
-use Rattle.cycles.specs.declared.Timed.TheVariants.{Crowded}
+use Rattle.cycles.specs.declared.Timed.TheVariants as timed
 use Rattle.cycles.proofs.Whole.{one_reading}
 use Rattle.trails.specs.declared.telling.Telling.{Telling}
 use Rattle.trails.specs.Trails.{bit}
@@ -15,12 +15,14 @@ use Rattle.tables.specs.Best.{Val, Both, Has, first, later}
 use Rattle.tables.specs.Each.{At, here, there}
 use Rattle.tables.specs.Showing.{width, as_good}
 use Rattle.tables.specs.Tables.{Entry}
+use Rattle.tables.proofs.Chunks.{within, up_to}
 use Rattle.tables.proofs.Applying.{has_at}
 use Rattle.tables.proofs.Matching.{as_good_val, compares}
 use Rattle.tables.proofs.Top.{best_told}
 use Rattle.engine.specs.declared.tabulate.Tabulated.{Tabulated}
-use Rattle.engine.specs.declared.tabulate.Tabulated.TheVariants as tabulated
-use Rattle.engine.specs.Tabulating.{TabulateSays, asked, behind}
+use Rattle.engine.specs.declared.tabulate.TabulateError.{TabulateError}
+use Rattle.engine.specs.declared.tabulate.TabulateError.TheVariants.{NoProgram, Few, Crowded}
+use Rattle.engine.specs.Tabulating.{TabulatePost, asked, behind}
 use Rattle.timing.specs.Retelling.{side, told_at, Holding, Tellable}
 use Rattle.timing.proofs.Hearing.{at_less, heard_as}
 use Rattle.timing.proofs.Passes.{done_holds}
@@ -43,63 +45,82 @@ pub record Chosen (c : Cache) (p : P) (x : Extreme) (k : ℕ) (t : Telling) : Ty
   pub count : t.count ≡ length (side x e.val).choices
   pub best : (f : Entry (Both Val)) → Has f (behind c p) → as_good_val x (side x e.val) (side x f.val) ≡ true
 
-pub chosen : (c : Cache) (p : P) (x : Extreme) (a : Both ℕ) (xs st : List ℕ) (n k : ℕ) (t : Telling) → Holding c p a xs st → n ≡ length (behind c p) → k < n → ((j : ℕ) → j < n → as_good x (told_at c x k xs) (told_at c x j xs) ≡ true) → t ≡ told_at c x k xs → Chosen c p x k t
-chosen c p x a xs st n k t h many l g is =
-    let (e, at) = entry_at k (behind c p) (omega arith) in
-    let m = heard_as c p x a (side x a) xs st e k (told_at c x k xs) refl refl h at in
-    record {
-      e = e;
-      at = at;
-      time = ap (λ z. z.time) is ∙ m.time;
-      count = ap (λ z. z.count) is ∙ m.tells.count;
-      best = λ f i.
-          let (j, b) = place_of i in
-          let q = heard_as c p x a (side x a) xs st f j (told_at c x j xs) refl refl h b in
-          sym (compares x (told_at c x k xs) (told_at c x j xs) (side x e.val) (side x f.val) m.time m.tells.count q.time q.tells.count) ∙ g j (omega (arith, at_less b));
-    }
+-- the first pass is done, with n entries
+pub record Done (ws : List ℕ) (c : Cache) (p : P) (a : Both ℕ) (most n : ℕ) (xs st : List ℕ) : Type 0 where
+  pub reads : Reads ws c p
+  pub many : n ≡ length (behind c p)
+  pub some : 0 < n
+  pub few : n ≤ most
+  pub enough : asked c p ≤ most
+  pub lent : width c * most ≤ length xs
+  pub holding : Holding c p a xs st
+
+-- what the first pass says of the program that the words are known to be
+module _ {ws : List ℕ} {c : Cache} {p : P} {a : Both ℕ} {most lent : ℕ} {ys st : List ℕ} (reads : Reads ws c p) (fits : width c * most ≤ lent) where
+  pub first_pass : {t : Tabulated} → length ys ≡ lent → TabulatePost ws a most lent ys st (Ok t) → Done ws c p a most t.entries ys st
+  first_pass {t} l s =
+      let (d, q, r, more, m, few, within, shows) = s.says in
+      let e = one_reading ws d c q p r reads in
+      let many : t.entries ≡ length (behind c p) = m ∙ ap (λ z. length (behind z q)) e.0 ∙ ap (λ z. length (behind c z)) e.1 in
+      record {
+        reads = reads;
+        many = many;
+        some = omega (arith, (best_told c p).0, many);
+        few = few;
+        enough = omega (arith, more, ap (λ z. asked z q) e.0, ap (asked c) e.1);
+        lent = omega (arith, fits, l);
+        holding = done_holds s c p reads;
+      }
+
+  -- it is not done: crowded
+  pub told_crowded : (r : Result Tabulated TabulateError) (o : List ℕ) → TabulatePost ws a most lent ys st r → ((t : Tabulated) → r ≡ Ok t → ⊥) → TimedSays ws most o o timed.Crowded
+  told_crowded (Ok t) o s h = absurd (h t refl)
+  told_crowded (Err Crowded) o s h =
+      let (d, q, r, more, wide) = s.says in
+      (d, q, r, wide, refl)
+  told_crowded (Err (NoProgram f)) o s h = absurd (s.says.1 c p reads)
+  told_crowded (Err Few) o s h =
+      let (d, q, r, less) = s.says in
+      absurd (let e = one_reading ws d c q p r reads in omega (arith, less, fits, ap (λ z. width z * most) e.0))
+
+module _ {ws : List ℕ} {c : Cache} {p : P} {a : Both ℕ} {most n : ℕ} {xs st : List ℕ} (d : Done ws c p a most n xs st) where
+  -- the slots fit, all of them and each
+  pub all_fit : width c * n ≤ length xs
+  all_fit = omega (arith, up_to (width c) n most d.few, d.lent)
+
+  pub slot_fits : (k : ℕ) → k < n → width c * k + width c ≤ length xs
+  slot_fits k h = within (width c) k n (length xs) h all_fit
+
+  pub chosen : (x : Extreme) (k : ℕ) (t : Telling) → k < n → ((j : ℕ) → j < n → as_good x (told_at c x k xs) (told_at c x j xs) ≡ true) → t ≡ told_at c x k xs → Chosen c p x k t
+  chosen x k t l g is =
+      let (e, at) = entry_at k (behind c p) (omega (arith, d.many)) in
+      let m = heard_as c p x a (side x a) xs st e k (told_at c x k xs) refl refl d.holding at in
+      record {
+        e = e;
+        at = at;
+        time = ap (λ z. z.time) is ∙ m.time;
+        count = ap (λ z. z.count) is ∙ m.tells.count;
+        best = λ f i.
+            let (j, b) = place_of i in
+            let q = heard_as c p x a (side x a) xs st f j (told_at c x j xs) refl refl d.holding b in
+            sym (compares x (told_at c x k xs) (told_at c x j xs) (side x e.val) (side x f.val) m.time m.tells.count q.time q.tells.count) ∙ g j (omega (arith, at_less b, d.many));
+      }
+
+  -- what is chosen can be told, from whatever slots hold the table then
+  abbrev pub tellable : {x : Extreme} {k : ℕ} {t : Telling} {b : Both ℕ} {zs su : List ℕ} (bytes : ℕ) → Chosen c p x k t → length zs ≡ length xs → bytes ≡ t.count → side x b ≡ 0 → Holding c p b zs su → Tellable ws c most x k bytes zs su
+  tellable {b = b} bytes o s l from h =
+      record { fitting = record { p = p; reads = d.reads; enough = d.enough; few = omega (arith, d.many, d.few); fits = omega (arith, d.lent, s) }; e = o.e; at = o.at; long = l ∙ o.count; a = b; from = from; holding = h }
 
 -- the longest of all, with the fewest choices; and the shortest
-pub is_longest : (c : Cache) (p : P) (k : ℕ) (t : Telling) (o : Chosen c p sought.Longest k t) → Longest c p t.time o.e.val.long.choices × ((m : ℕ) (cs : List Bool) → Longest c p m cs → t.count ≤ length cs)
-is_longest c p k t o =
+pub is_longest : {c : Cache} {p : P} {k : ℕ} {t : Telling} (o : Chosen c p sought.Longest k t) → Longest c p t.time o.e.val.long.choices × ((m : ℕ) (cs : List Bool) → Longest c p m cs → t.count ≤ length cs)
+is_longest {c} {p} o =
     let r = (best_told c p).1 o.e (has_at o.at) o.best in
     (subst (λ n. Longest c p n o.e.val.long.choices) (sym o.time) r.0, λ m cs l. omega (arith, r.1 m cs l, o.count))
 
-pub is_shortest : (c : Cache) (p : P) (k : ℕ) (t : Telling) (o : Chosen c p sought.Shortest k t) → Shortest c p t.time o.e.val.short.choices × ((m : ℕ) (cs : List Bool) → Shortest c p m cs → t.count ≤ length cs)
-is_shortest c p k t o =
+pub is_shortest : {c : Cache} {p : P} {k : ℕ} {t : Telling} (o : Chosen c p sought.Shortest k t) → Shortest c p t.time o.e.val.short.choices × ((m : ℕ) (cs : List Bool) → Shortest c p m cs → t.count ≤ length cs)
+is_shortest {c} {p} o =
     let r = (best_told c p).2 o.e (has_at o.at) o.best in
     (subst (λ n. Shortest c p n o.e.val.short.choices) (sym o.time) r.0, λ m cs l. omega (arith, r.1 m cs l, o.count))
-
--- what the first pass says of the program that the words are known to be
-module _ (ws : List ℕ) (c : Cache) (p : P) (reads : Reads ws c p) (a : Both ℕ) (most lent : ℕ) (ys st : List ℕ) where
-  -- it is not done: crowded
-  pub told_crowded : (r : Tabulated) (o : List ℕ) → TabulateSays ws a most lent ys st r → ((n top : ℕ) → r ≡ tabulated.Done n top → ⊥) → width c * most ≤ lent → TimedSays ws most o o Crowded
-  told_crowded (tabulated.Done n top) o s h f = absurd (h n top refl)
-  told_crowded tabulated.Crowded o (d, q, r, more, wide) h f =
-      let e = one_reading ws d c q p r reads in
-      (d, q, r, wide, refl)
-  told_crowded tabulated.NoProgram o s h f = absurd (s c p reads)
-  told_crowded tabulated.Few o (d, q, r, less) h f = absurd (let e = one_reading ws d c q p r reads in omega (arith, less, f, ap (λ z. width z * most) e.0))
-
-  module _ (n top : ℕ) (says : TabulateSays ws a most lent ys st (tabulated.Done n top)) where
-    pub many : n ≡ length (behind c p)
-    many = let (d, q, r, enough, m, few, within, shows) = says in let e = one_reading ws d c q p r reads in m ∙ ap (λ z. length (behind z q)) e.0 ∙ ap (λ z. length (behind c z)) e.1
-
-    pub some : 0 < n
-    some = omega (arith, (best_told c p).0, many)
-
-    pub few_enough : n ≤ most
-    few_enough = says.5
-
-    pub enough : asked c p ≤ most
-    enough = let (d, q, r, more, m, few, within, shows) = says in let e = one_reading ws d c q p r reads in omega (arith, more, ap (λ z. asked z q) e.0, ap (asked c) e.1)
-
-    pub held : Holding c p a ys st
-    held = done_holds ws a most lent ys st n top says c p reads
-
--- what is chosen can be told
-abbrev pub tellable : (ws : List ℕ) (c : Cache) (p : P) (most : ℕ) (x : Extreme) (k n : ℕ) (xs st : List ℕ) (t : Telling) (a : Both ℕ) → Reads ws c p → asked c p ≤ most → length (behind c p) ≤ most → width c * most ≤ length xs → Chosen c p x k t → n ≡ t.count → side x a ≡ 0 → Holding c p a xs st → Tellable ws c most x k n xs st
-tellable ws c p most x k n xs st t a reads enough few fits o l from h =
-    record { fitting = record { p = p; reads = reads; enough = enough; few = few; fits = fits }; e = o.e; at = o.at; long = l ∙ o.count; a = a; from = from; holding = h }
 
 pub bits_map : (bs : List Bool) → bits bs ≡ map bit bs
 bits_map [] = refl
@@ -107,7 +128,7 @@ bits_map (true ∷ bs) = ap (λ t. 1 ∷ t) (bits_map bs)
 bits_map (false ∷ bs) = ap (λ t. 0 ∷ t) (bits_map bs)
 
 -- two plays written, one behind the other, into the front of the bytes
-module _ (o ys zs : List ℕ) (k l : ℕ) (fits : k + l ≤ length o) where
+module _ (o ys : List ℕ) (k l : ℕ) (fits : k + l ≤ length o) where
   pub first_long : length (take (k - 0) o) ≡ k
   first_long = let z : k - 0 ≡ k = omega arith in rw z (length-take-le k o (omega arith))
 
@@ -120,7 +141,7 @@ module _ (o ys zs : List ℕ) (k l : ℕ) (fits : k + l ≤ length o) where
       let b : drop k (ys ++ drop k o) ≡ drop k o = drop_at ys (drop k o) k long in
       ap (λ t. length (take (k + l - k) (drop k t))) first_is ∙ rw (z, b) (length-take-le l (drop k o) (omega (arith, length-drop k o)))
 
-  module _ (long : length ys ≡ k) (short : length zs ≡ l) where
+  module _ (zs : List ℕ) (long : length ys ≡ k) (short : length zs ≡ l) where
     second_is : put_mid k (k + l - k) (put_mid 0 (k - 0) o ys) zs ≡ (ys ++ zs) ++ drop (k + l) o
     second_is =
         let z : k + l - k ≡ l = omega arith in

@@ -9,11 +9,10 @@ ghost use Rattle.trails.specs.Trails.{bit};
 
 use crate::extreme::telling_of;
 use cycles::geometry::Geometry;
-use engine::tabulate::{Tabulated, tabulate};
+use engine::tabulate::tabulate;
 use tables::slot::{Extreme, Firsts};
 use tables::table::StateIndex;
 use trails::ChoiceNumber;
-use trails::trail::tell;
 
 // Whose play is told: an entry of the table behind a program, and which of its two tellings.
 #[derive(Clone, Copy)]
@@ -46,9 +45,7 @@ fn again(words: &[u32], firsts: Firsts, most: u32, slots: &mut [u32], store: &mu
     requires { (c : Cache) × Fitting words.now c most (length slots.old) }
     ensures { (c : Cache) (p : P) → Reads words.now c p → Holding c p (firsts_of firsts) slots.new store.new }
 {
-    let Tabulated::Done(_, _) = tabulate(words, firsts, most, slots, store) else {
-        unreachable()
-    };
+    tabulate(words, firsts, most, slots, store).unwrap();
 }
 
 // Writes all choices of a play: those that the slots have recorded, and by further passes the rest.
@@ -59,11 +56,11 @@ pub fn tell_play(teller: Teller<'_>, out: &mut [u8], slots: &mut [u32], store: &
 {
     let extreme = teller.extreme;
     let telling = telling_of(slots, teller.cache, teller.entry, extreme);
-    let mut told = tell(telling, store, out);
+    let mut told = telling.tell(store, out);
     while told < out.len() {
         let firsts = firsts_from(extreme, told as u64);
         again(teller.words, firsts, teller.most, slots, store);
         let further = telling_of(slots, teller.cache, teller.entry, extreme);
-        told += tell(further, store, &mut out[told..]);
+        told += further.tell(store, &mut out[told..]);
     }
 }

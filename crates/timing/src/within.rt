@@ -10,7 +10,7 @@ use crate::extreme::{best, telling_of};
 use crate::retell::{Teller, tell_play};
 use cycles::Timed;
 use cycles::geometry::Geometry;
-use engine::tabulate::{Tabulated, tabulate};
+use engine::tabulate::tabulate;
 use tables::slot::{Extreme, Firsts};
 use trails::ChoiceNumber;
 
@@ -34,11 +34,11 @@ pub(crate) fn time_within(
     ensures says { TimedSays words.now most choices.old choices.new result }
     ensures enough { result ≢ Few }
 {
-    let Tabulated::Done(count, _) = tabulate(words, FROM_THE_FIRST, most, slots, store) else {
+    let Ok(table) = tabulate(words, FROM_THE_FIRST, most, slots, store) else {
         return Timed::Crowded;
     };
-    let long = best(slots, cache, count, Extreme::Longest);
-    let short = best(slots, cache, count, Extreme::Shortest);
+    let long = best(slots, cache, table.entries, Extreme::Longest);
+    let short = best(slots, cache, table.entries, Extreme::Shortest);
     let longest = telling_of(slots, cache, long, Extreme::Longest);
     let shortest = telling_of(slots, cache, short, Extreme::Shortest);
     let bytes = choices.len() as u64;
@@ -56,11 +56,9 @@ pub(crate) fn time_within(
     };
     tell_play(teller, &mut choices[0..middle], slots, store);
     let teller = Teller {
-        words,
-        cache,
-        most,
         entry: short,
         extreme: Extreme::Shortest,
+        ..teller
     };
     tell_play(teller, &mut choices[middle..end], slots, store);
     Timed::Times(longest.time, shortest.time, middle, end - middle)

@@ -3,7 +3,7 @@ use Rattle.cycles.specs.Code.{P, times}
 use Rattle.cycles.specs.Reading.{cache}
 use Rattle.machine.specs.Around.{around}
 use Rattle.tables.specs.Showing.{firsts_of}
-use Rattle.engine.specs.Passing.{Task}
+use Rattle.engine.specs.Passing.{TaskOf}
 use Rattle.engine.proofs.Chains.{Onward}
 use Rattle.engine.proofs.Turns.{Turned}
 use Rattle.engine.proofs.pass.+run_run_branch_run_either_run_first_run_rounds.Given as goal
@@ -25,16 +25,18 @@ decreases-run_first l = 4 * (length l.pass.words.now - l.from.at) + 1
 
 abbrev pub invariant-run-loop-cycles : goal.invariant-run-loop-cycles
 invariant-run-loop-cycles l =
-    (l.here.count ≤ l.room)
-    × (l.here.top ≤ length l.store)
-    × (l.initial.here.at ≤ l.here.at)
-    × ((k : Task (cache l.pass.cache) (firsts_of l.pass.firsts) l.pass.words.now l.rounds.depth l.initial.here l.initial.slots l.initial.store) → Onward (cache l.pass.cache) (firsts_of l.pass.firsts) (around l.rounds.at l.rounds.depth) l.pass.words.now l.rounds.depth l.room k.p k.T l.initial.here l.here l.initial.store l.slots l.store)
+    record {
+      count : l.here.count ≤ l.room;
+      further : l.initial.here.at ≤ l.here.at;
+      onward : (k : TaskOf l.pass l.initial.here l.initial.slots l.initial.store) → Onward (cache l.pass.cache) (firsts_of l.pass.firsts) (around l.pass.rounds.at l.pass.rounds.depth) l.pass.words.now l.pass.rounds.depth l.room k.p k.T l.initial.here l.here l.initial.store l.slots l.store;
+    }
 
 abbrev pub decreases-run-loop-cycles : goal.decreases-run-loop-cycles
 decreases-run-loop-cycles l = length l.pass.words.now - l.here.at
 
 abbrev pub invariant-run_rounds-loop-round : goal.invariant-run_rounds-loop-round
 invariant-run_rounds-loop-round l =
-    (l.here.count ≤ l.room)
-    × (l.here.top ≤ length l.store)
-    × ((k : Task (cache l.pass.cache) (firsts_of l.pass.firsts) l.pass.words.now l.rounds.depth l.initial.here l.initial.slots l.initial.store) (b : P) → k.p ≡ times l.count b → Turned (cache l.pass.cache) (firsts_of l.pass.firsts) (around l.rounds.at l.rounds.depth) l.room b l.count l.round k.p k.T l.initial.here l.here l.initial.store l.slots l.store)
+    record {
+      count : l.here.count ≤ l.room;
+      turned : (k : TaskOf l.pass l.initial.here l.initial.slots l.initial.store) (b : P) → k.p ≡ times l.count b → Turned (cache l.pass.cache) (firsts_of l.pass.firsts) (around l.pass.rounds.at l.pass.rounds.depth) l.room b l.count l.round k.p k.T l.initial.here l.here l.initial.store l.slots l.store;
+    }

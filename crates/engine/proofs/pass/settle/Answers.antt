@@ -1,32 +1,16 @@
-use Rattle.std.proofs.Common.{◌≡◌, ℕ, ◌+◌, ◌*◌, ◌≤◌, length, drop, sym, ap, ◌∙◌, subst, zero-add, mul-add, arith, length-drop}
+use Rattle.std.proofs.Common.{◌≡◌, ℕ, ◌+◌, ◌*◌, length, drop, sym, ap, ◌∙◌, subst, zero-add, mul-add, arith, length-drop}
 use Rattle.cycles.specs.Reading.{cache}
 use Rattle.tables.specs.Best.{told}
 use Rattle.tables.specs.Showing.{Shows, width}
 use Rattle.tables.specs.Tables.{dedup}
-use Rattle.engine.proofs.Behind.{behind_fits, behind_is, behind_back, behind_front}
+use Rattle.engine.proofs.Behind.{behind_is, behind_back, behind_front}
 use Rattle.engine.proofs.Branches.{shows_dedup}
 use Rattle.engine.proofs.pass.settle.Goals as goal
-
--- the slots that are kept lie within the words
-kept : (c : goal.After-width) → c.width.result * c.args.keep ≤ length c.args.slots.now
-kept c = behind_fits c.width.result (width (cache c.args.cache)) c.args.keep (c.args.keep + c.args.count) c.args.slots.now c.width.ensures (omega arith) c.requires
-
-pub overflow_mul-width : goal.overflow_mul-width
-overflow_mul-width c = omega (arith, kept c)
-
-pub offset_bounds-slots-width : goal.offset_bounds-slots-width
-offset_bounds-slots-width c = omega (arith, kept c)
-
-pub slice_bounds-gather-count : goal.slice_bounds-gather-count
-slice_bounds-gather-count c = kept c
-
-pub slice_bounds-gather-start : goal.slice_bounds-gather-start
-slice_bounds-gather-start c = omega (arith, kept c)
 
 pub gather-requires : goal.gather-requires
 gather-requires c =
     let w : ℕ = width (cache c.args.cache) in
-    let e = behind_is c.width.result w c.args.keep (c.args.keep + c.args.count) c.args.slots.now c.width.ensures (omega arith) c.requires in
+    let e = behind_is c.args.keep c.args.slots.now c.width.ensures c.requires (omega arith) in
     let z : 0 + c.args.count ≡ c.args.count = zero-add c.args.count in
     record { order = omega arith; fits = rw (e, z) (omega (arith, length-drop (w * c.args.keep) c.args.slots.now, mul-add w c.args.keep c.args.count, c.requires)) }
 
@@ -34,12 +18,11 @@ pub returns : goal.returns
 returns c =
     let g = cache c.args.cache in
     let w : ℕ = width g in
-    let all : ℕ = c.args.keep + c.args.count in
-    let e = behind_is c.width.result w c.args.keep all c.args.slots.now c.width.ensures (omega arith) c.requires in
+    let e = behind_is c.args.keep c.args.slots.now c.width.ensures c.requires (omega arith) in
     let l : length c.gather.new.slots ≡ length (drop (w * c.args.keep) c.args.slots.now) = c.gather.auto.slots ∙ ap length e in
-    let back = behind_back c.width.result w c.args.keep all c.args.slots.now c.width.ensures (omega arith) c.requires c.gather.new.slots l in
+    let back = behind_back c.args.keep c.args.slots.now c.width.ensures c.requires (omega arith) c.gather.new.slots l in
     record {
-      kept = behind_front c.width.result w c.args.keep all c.args.slots.now c.width.ensures (omega arith) c.requires c.gather.new.slots l;
+      kept = behind_front c.args.keep c.args.slots.now c.width.ensures c.requires (omega arith) c.gather.new.slots l;
       shows = λ a s T m. subst (λ z. Shows g a s c.gather.result z (dedup told.best T)) (sym back) (shows_dedup g a s c.args.count c.gather.result _ c.gather.new.slots T c.gather.ensures.shows (subst (λ z. Shows g a s c.args.count z T) (sym e) m));
       few = omega (arith, c.gather.ensures.few);
     }

@@ -1,10 +1,9 @@
-use Rattle.tables.specs.Showing.{firsts_of}
-use Rattle.std.proofs.Common.{length}
+use Rattle.std.proofs.Common.{rules}
 use Rattle.timing.proofs.Passes.{fits_done, done_holds}
 use Rattle.timing.proofs.retell.again.Goals as goal
 
-pub unreachable-requires : goal.unreachable-requires
-unreachable-requires c = fits_done c.args.words.now (firsts_of c.args.firsts) c.args.most (length c.args.slots.now) c.tabulate.new.slots c.tabulate.new.store c.requires.0 c.tabulate.result c.requires.1 c.tabulate.ensures.says c.in_default.not-Done
+pub unwrap-requires : goal.unwrap-requires
+unwrap-requires c = let t = fits_done c.tabulate.result c.requires.1 c.tabulate.ensures in rw t.1 (search rules)
 
 pub returns : goal.returns
-returns c = done_holds c.args.words.now (firsts_of c.args.firsts) c.args.most (length c.args.slots.now) c.tabulate.new.slots c.tabulate.new.store _ _ c.in-Done.ensures.says
+returns c = done_holds (rw c.unwrap.ensures at c.tabulate.ensures)
