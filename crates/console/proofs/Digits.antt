@@ -1,8 +1,7 @@
 -- One byte of a text of choices, and the fold over all.
-use Rattle.std.proofs.Common.{◌≡◌, ℕ, ◌+◌, ◌<◌, ◌≤◌, Bool, true, false, ◌||◌, ◌==◌, cond, nat_lt, List, [], ◌∷◌, length, get_or, drop, Ok, Err, Result, refl, ap, ◌∙◌, rules, ◌++◌, append_assoc, append-nil}
+use Rattle.std.proofs.Common.{◌≡◌, ℕ, ◌+◌, ◌<◌, ◌≤◌, List, [], ◌∷◌, length, get_or, drop, Ok, Err, Result, refl, ap, ◌∙◌, rules, ◌++◌, append_assoc, append-nil}
 use Rattle.std.proofs.lemmas.List.{drop_more, drop_all}
 use Rattle.console.specs.declared.choices.BadChoice.{BadChoice}
-use Rattle.console.specs.declared.choices.BadChoice.TheVariants.{NoChoice, TooMany}
 use Rattle.console.specs.Chosen.{Chosen, step, reads, go_on, and_byte, choices_in, picked}
 
 reads_cons : (m : ℕ) (t u : Chosen) (b : ℕ) (bs : List ℕ) → step m t b ≡ Ok u → reads m (b ∷ bs) t ≡ reads m bs u

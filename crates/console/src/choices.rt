@@ -154,3 +154,27 @@ impl ChoiceText {
         Ok(())
     }
 }
+
+#[cfg(test)]
+mod tests {
+    use super::*;
+    use std::test::Fail;
+
+    #[test]
+    fn reads_choices(rt: HostRuntime) -> Result<(), Fail> {
+        let text = ChoiceText::from_text(rt.alloc(), 3, "1 0\n\t1")?;
+        assert_eq!(rt; text.choices(), [true, false, true].as_slice());
+        assert_eq!(rt; text.position(), Position { line: 2, column: 3 });
+        Ok(())
+    }
+
+    #[test]
+    fn stops_at_what_is_refused(rt: HostRuntime) -> Result<(), Fail> {
+        let mut text = ChoiceText::new(rt.alloc(), 2)?;
+        assert_eq!(rt; text.feed(b"1\nx0"), Err(BadChoice::NoChoice(b'x')));
+        assert_eq!(rt; text.position(), Position { line: 2, column: 1 });
+        assert_eq!(rt; text.feed(b"000"), Err(BadChoice::TooMany(2)));
+        assert_eq!(rt; text.choices(), [true, false].as_slice());
+        Ok(())
+    }
+}

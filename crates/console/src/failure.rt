@@ -58,31 +58,27 @@ impl fmt::Display for Failure {
             Failure::Text(place, flaw) => write!(f, "{place}: {flaw}"),
             Failure::Words(place, rule) => write!(f, "{place}: {rule}"),
             Failure::Choice(position, flaw) => write!(f, "standard input:{position}: {flaw}"),
-            Failure::Play { file, given, error } => write_unplayed(f, file, *given, *error),
+            Failure::Play {
+                file,
+                given,
+                error: PlayError::RanOut,
+            } => write!(
+                f,
+                "{file}: too few choices: all {given} are used, and an either is come to"
+            ),
+            Failure::Play {
+                file,
+                given,
+                error: PlayError::LeftOver(played),
+            } => write!(
+                f,
+                "{file}: choices left over: {given} are given, and {} used",
+                played.choices
+            ),
+            Failure::Play { file, error, .. } => write!(f, "{file}: {error}"),
             Failure::Output(error) => write!(f, "standard output: {error}"),
             Failure::Memory => f.write_str("out of memory"),
         }
-    }
-}
-
-// What is wrong with the choices of a play, with how many were given.
-fn write_unplayed<W: fmt::Write>(
-    f: &mut fmt::Formatter<W>,
-    file: &String,
-    given: usize,
-    error: PlayError,
-) -> fmt::Result {
-    match error {
-        PlayError::RanOut => write!(
-            f,
-            "{file}: too few choices: all {given} are used, and an either is come to"
-        ),
-        PlayError::LeftOver(played) => write!(
-            f,
-            "{file}: choices left over: {given} are given, and {} used",
-            played.choices
-        ),
-        _ => write!(f, "{file}: {error}"),
     }
 }
 

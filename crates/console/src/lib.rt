@@ -12,5 +12,4 @@ pub mod trace;
 
 pub use choices::ChoiceText;
 pub use failure::{Failure, ended};
-pub use replay::Replay;
 pub use source::{Program, Room, Source};

@@ -2,7 +2,8 @@
 #![tactic(auto)]
 
 use console::arguments::{Request, asked};
-use console::{ChoiceText, Failure, Replay, Room, Source, ended};
+use console::replay::{total_of, write_trace};
+use console::{ChoiceText, Failure, Room, Source, ended};
 use std::io::BufWriter;
 use std::process::ExitCode;
 
@@ -32,12 +33,12 @@ so, nothing is written to standard output, and the exit status is 1.
 
 fn replay(rt: &HostRuntime, file: String, total_alone: bool) -> Result<(), Failure> {
     let program = Source::from_file(rt, ROOM, file)?.read()?;
-    let choices = ChoiceText::from_stdin(rt, MOST_CHOICES)?;
-    let mut replay = Replay::new(rt.alloc(), program, choices)?;
+    let text = ChoiceText::from_stdin(rt, MOST_CHOICES)?;
     // First, so that nothing is shown of a play that does not come to its end.
-    let total = replay.total()?;
+    let total = total_of(&program, text.choices())?;
     if !total_alone {
-        replay.show(BufWriter::new(rt.alloc(), rt.stdout())?)?;
+        let out = BufWriter::new(rt.alloc(), rt.stdout())?;
+        write_trace(out, &program, text.choices())?;
     }
     println!(rt; "{total}")?;
     Ok(())

@@ -3,8 +3,9 @@
 #![tactic(auto)]
 
 use console::outline::write_outline;
+use console::replay::total_of;
 use console::trace::Total;
-use console::{ChoiceText, Failure, Replay, Room, Source, ended};
+use console::{ChoiceText, Failure, Room, Source, ended};
 use std::alloc::{AllocError, Global};
 use std::env;
 use std::process::ExitCode;
@@ -33,8 +34,8 @@ fn judge_text(rt: &HostRuntime, text: &[u8]) -> Result<usize, Failure> {
 fn replay_total(rt: &HostRuntime, path: &str, digits: &str) -> Result<Total, Failure> {
     let file = String::from_str(rt.alloc(), path)?;
     let program = Source::from_file(rt, ROOM, file)?.read()?;
-    let choices = ChoiceText::from_text(rt.alloc(), MOST_CHOICES, digits)?;
-    Replay::new(rt.alloc(), program, choices)?.total()
+    let text = ChoiceText::from_text(rt.alloc(), MOST_CHOICES, digits)?;
+    total_of(&program, text.choices())
 }
 
 fn judge_replay(rt: &HostRuntime, words: &str) -> Result<(), Failure> {
