@@ -5,6 +5,8 @@ use Rattle.console.specs.declared.choices.BadChoice.{BadChoice}
 use Rattle.console.specs.declared.choices.BadChoice.TheVariants.{NoChoice, TooMany}
 use Rattle.console.specs.declared.choices.ChoiceText.{ChoiceText}
 use Rattle.console.specs.declared.choices.Position.{Position}
+use Rattle.console.specs.declared.failure.Failure.{Failure}
+use Rattle.console.specs.declared.failure.Failure.TheVariants.{Usage, NoFile, File, Text, Words, Choice, Play, Output, Memory}
 
 -- the choice that a byte is: 1 for the first, 0 for the second, and none for white space
 abbrev pub picked : ℕ → List Bool
@@ -60,3 +62,16 @@ Takes (Err f) most b t u = (step most t b ≡ Err f) × (u ≡ t)
 abbrev pub Fed : Result (Unit {0}) BadChoice → Chosen → Result Chosen Stop → Type 0
 Fed (Ok x) u out = out ≡ Ok u
 Fed (Err f) u out = out ≡ Err (record { upto = u; flaw = f })
+
+-- what is told of a text that is there already: its choices, or the position of the byte that is refused, and why; or there is no memory for them
+abbrev pub Typed : ℕ → List ℕ → Result ChoiceText Failure → Type 0
+Typed most bs (Ok t) = reads most bs empty ≡ Ok (shown t)
+Typed most bs (Err (Choice position flaw)) = (choices : List Bool) × (reads most bs empty ≡ Err (record { upto = record { choices = choices; position = position }; flaw = flaw }))
+Typed most bs (Err Memory) = Unit {0}
+Typed most bs (Err (Usage what word)) = ⊥
+Typed most bs (Err NoFile) = ⊥
+Typed most bs (Err (File file error)) = ⊥
+Typed most bs (Err (Text place flaw)) = ⊥
+Typed most bs (Err (Words place rule)) = ⊥
+Typed most bs (Err (Play file given error)) = ⊥
+Typed most bs (Err (Output error)) = ⊥

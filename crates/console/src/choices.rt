@@ -76,7 +76,7 @@ pub struct ChoiceText {
 }
 
 impl ChoiceText {
-    ghost use Rattle.console.specs.Chosen.{Fed, Takes, choices_in, empty, reads, shown};
+    ghost use Rattle.console.specs.Chosen.{Fed, Takes, Typed, choices_in, empty, reads, shown};
 
     // An empty text, with all the memory that so many choices take.
     pub fn new(heap: Global, most: usize) -> Result<ChoiceText, AllocError>
@@ -103,7 +103,9 @@ impl ChoiceText {
     }
 
     // The choices of a text that is there already.
-    pub fn from_text(heap: Global, most: usize, digits: &str) -> Result<ChoiceText, Failure> {
+    pub fn from_text(heap: Global, most: usize, digits: &str) -> Result<ChoiceText, Failure>
+        ensures { Typed most digits.now result }
+    {
         let mut text = ChoiceText::new(heap, most)?;
         match text.feed(digits.as_bytes()) {
             Ok(()) => Ok(text),

@@ -1,6 +1,6 @@
 ghost use Rattle.std.specs.Prelude.{◌≡◌, Ok};
 
-use machine::cache::{Outcome, Touched};
+use machine::cache::Outcome;
 use machine::observer::{Access, Event, Observer};
 use machine::player::Played;
 use machine::tally::Tally;
@@ -36,24 +36,15 @@ impl fmt::Display for Row {
                 "{start:>12}  {cycles:>6}  work           -           -    -           -"
             ),
             Event::Touch(access) => {
-                let Access {
-                    start,
-                    address,
-                    touched,
-                } = access;
-                let Touched {
-                    line,
-                    set,
-                    cycles,
-                    outcome,
-                } = touched;
-                let (what, evicted) = match outcome {
+                let touched = access.touched;
+                let (what, evicted) = match touched.outcome {
                     Outcome::Hit => ("hit ", Evicted(None)),
                     Outcome::Miss { evicted } => ("miss", Evicted(evicted)),
                 };
                 write!(
                     f,
-                    "{start:>12}  {cycles:>6}  {what}  {address:>10}  {line:>10}  {set:>3}  {evicted:>10}"
+                    "{:>12}  {:>6}  {what}  {:>10}  {:>10}  {:>3}  {evicted:>10}",
+                    access.start, touched.cycles, access.address, touched.line, touched.set
                 )
             }
         }
