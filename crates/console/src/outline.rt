@@ -1,113 +1,49 @@
-ghost use Rattle.std.specs.Prelude.{◌+◌, ◌≤◌, vec_len, OnOk};
+ghost use Rattle.std.specs.Prelude.{◌≤◌, length, IfOk};
 
-use crate::failure::Failure;
-use cycles::geometry::{Geometry, Policy};
+use crate::source::Program;
 use cycles::node::{Node, first_node};
 use std::alloc::Global;
 use std::io;
-use std::io::Write;
+use std::io::{BufWriter, Write};
 
-// What is to be written next: the program that the words go on with, or what stands between and behind its parts.
-#[derive(Clone, Copy)]
-enum Task {
-    Node,
-    Or,
-    Close,
-}
-
-pub fn write_cache<W: Write>(out: &mut W, cache: Geometry) -> io::Result<()> {
-    let sets = cache.sets;
-    let ways = cache.ways;
-    let line = cache.line;
-    let hit = cache.hit;
-    let miss = cache.miss;
-    let policy = match cache.policy {
-        Policy::Lru => "lru",
-        Policy::Fifo => "fifo",
-    };
-    writeln!(
-        out,
-        "cache sets {sets} ways {ways} line {line} hit {hit} miss {miss} {policy}"
-    )
-}
-
-fn write_line<W: Write>(out: &mut W, depth: usize, text: &str) -> io::Result<()> {
-    for _ in 0..depth {
-        out.write_all(b"  ")?;
-    }
-    writeln!(out, "{text}")
-}
-
-// One node, without the programs that it holds; of two in turn nothing is to be seen.
-fn write_node<W: Write>(out: &mut W, depth: usize, node: Node<'_>) -> io::Result<()> {
-    if let Node::Seq = node {
-        return Ok(());
-    }
-    for _ in 0..depth {
-        out.write_all(b"  ")?;
-    }
-    match node {
-        Node::Work(cycles) => writeln!(out, "work {cycles}"),
-        Node::Touch { base, steps } => {
-            write!(out, "touch {base}")?;
-            for step in steps {
-                write!(out, " step {step}")?;
-            }
-            writeln!(out)
-        }
-        Node::Either => writeln!(out, "either {{"),
-        Node::Loop(rounds) => writeln!(out, "loop {rounds} {{"),
-        _ => writeln!(out, "skip"),
-    }
-}
-
-// What comes behind a node, the first of it last, so that it is taken off first; how much deeper it stands.
-fn plan(tasks: &mut Vec<Task>, node: Node<'_>) -> Result<usize, Failure>
-    ensures { OnOk result (vec_len tasks.new ≤ vec_len tasks.old + 4) }
+// Writes the node that the words begin with, a line for each node in it, two columns deeper than what holds it; gives the words behind it.
+// The second of two is gone on to in the loop, so only the depth takes stack.
+fn write_node<'a, W: Write>(out: &mut W, words: &'a [u32], indent: usize) -> io::Result<&'a [u32]>
+    ensures { IfOk result (λ rest. length rest.now ≤ length words.entry.now) }
 {
-    match node {
-        Node::Seq => {
-            tasks.push(Task::Node)?;
-            tasks.push(Task::Node)?;
-            Ok(0)
+    let mut rest = words;
+    let deeper = indent.saturating_add(2);
+    while let Ok(node) = first_node(rest) {
+        rest = &rest[node.size()..];
+        match node {
+            Node::Seq => rest = write_node(out, rest, indent)?,
+            Node::Either => {
+                writeln!(out, "{:indent$}either {{", "")?;
+                rest = write_node(out, rest, deeper)?;
+                writeln!(out, "{:indent$}}} or {{", "")?;
+                rest = write_node(out, rest, deeper)?;
+                writeln!(out, "{:indent$}}}", "")?;
+                return Ok(rest);
+            }
+            Node::Loop(_) => {
+                writeln!(out, "{:indent$}{node} {{", "")?;
+                rest = write_node(out, rest, deeper)?;
+                writeln!(out, "{:indent$}}}", "")?;
+                return Ok(rest);
+            }
+            Node::Work(_) | Node::Touch { .. } | Node::Skip => {
+                writeln!(out, "{:indent$}{node}", "")?;
+                return Ok(rest);
+            }
         }
-        Node::Either => {
-            tasks.push(Task::Close)?;
-            tasks.push(Task::Node)?;
-            tasks.push(Task::Or)?;
-            tasks.push(Task::Node)?;
-            Ok(1)
-        }
-        Node::Loop(_) => {
-            tasks.push(Task::Close)?;
-            tasks.push(Task::Node)?;
-            Ok(1)
-        }
-        _ => Ok(0),
     }
+    Ok(rest)
 }
 
-// The program that the words begin with, a node to a line, each two spaces deeper than what holds it.
-pub fn write_program<W: Write>(out: &mut W, heap: Global, words: &[u32]) -> Result<(), Failure> {
-    let mut tasks = vec![in heap; Task::Node]?;
-    let mut rest = words;
-    let mut depth: usize = 0;
-    while let Some(task) = tasks.pop() {
-        match task {
-            Task::Node => {
-                let Ok(node) = first_node(rest) else {
-                    return Ok(());
-                };
-                rest = &rest[node.size()..];
-                write_node(out, depth, node)?;
-                depth = depth.saturating_add(plan(&mut tasks, node)?);
-            }
-            Task::Or => write_line(out, depth.saturating_sub(1), "} or {")?,
-            Task::Close => {
-                depth = depth.saturating_sub(1);
-                write_line(out, depth, "}")?;
-            }
-        }
-    }
-    Ok(())
+// Writes the cache and the program. It was read, so it is at most 200 deep.
+pub fn write_outline<W: Write + Drop>(out: W, heap: Global, program: &Program) -> io::Result<()> {
+    let mut out = BufWriter::new(heap, out)?;
+    writeln!(out, "{}", program.cache)?;
+    write_node(&mut out, program.code(), 0)?;
+    out.flush()
 }

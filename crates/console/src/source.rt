@@ -1,82 +1,22 @@
-ghost use Rattle.std.specs.Prelude.{◌≡◌, drop};
-ghost use Rattle.console.specs.Loaded.{Told};
-ghost use Rattle.listing.specs.Text.{shown};
+ghost use Rattle.std.specs.Prelude.{◌≡◌, ◌≤◌, drop, vec_len};
 
-use crate::choices::ChoiceText;
-use crate::failure::Failure;
+use crate::failure::{Failure, Place};
+use crate::input::{Stop, read_pieces};
 use cycles::geometry::Geometry;
 use cycles::reader::read;
+use listing::Listing;
 pub use listing::Room;
-use listing::{Flaw, Listing};
 use std::alloc::Global;
+use std::fs;
 use std::io::Read;
-use std::{fs, io};
 
-const PIECE: usize = 4096;
-
-// Why a text was not read to its end.
-#[derive(Clone, Copy)]
-enum Stop {
-    Input(io::Error),
-    Text(Flaw),
-}
-
-impl From<io::Error> for Stop {
-    fn from(e: io::Error) -> Stop {
-        Stop::Input(e)
-    }
-}
-
-impl From<Flaw> for Stop {
-    fn from(e: Flaw) -> Stop {
-        Stop::Text(e)
-    }
-}
-
-// The choices on standard input.
-pub fn read_choices(rt: &HostRuntime, most: usize) -> Result<ChoiceText, Failure> {
-    let mut text = ChoiceText::new(rt.alloc(), most)?;
-    let mut piece = [0u8; PIECE];
-    let mut input = rt.stdin();
-    for _ in 0..u64::MAX {
-        let n = match input.read(&mut piece) {
-            Ok(n) => n,
-            Err(error) => {
-                let name = String::from_str(rt.alloc(), "standard input")?;
-                return Err(Failure::File(name, error));
-            }
-        };
-        if n == 0 {
-            break;
-        }
-        if let Err(flaw) = text.feed(&piece[0..n]) {
-            let (line, column) = text.position();
-            return Err(Failure::Choice { line, column, flaw });
-        }
-    }
-    Ok(text)
-}
-
-// Reads a text to its end, a piece at a time.
-fn read_text<R: Read + Drop>(mut from: R, listing: &mut Listing) -> Result<(), Stop> {
-    let mut piece = [0u8; PIECE];
-    for _ in 0..u64::MAX {
-        let n = from.read(&mut piece)?;
-        if n == 0 {
-            break;
-        }
-        listing.feed(&piece[0..n])?;
-    }
-    listing.finish();
-    Ok(())
-}
-
-// A program that was read, with its cache.
-#[derive(Drop)]
+// A program that was read, with its cache; the cache's six words stand first.
+#[derive(Debug, Drop)]
 pub struct Program {
     pub name: String,
     pub cache: Geometry,
     words: Vec<u32>,
+    ghost whole: { 6 ≤ vec_len words },
 }
 
 impl Program {
@@ -91,55 +31,59 @@ impl Program {
     pub fn code(&self) -> &[u32]
         ensures { result.now ≡ drop 6 self.now.words.items }
     {
-        let words = self.words.as_slice();
-        if words.len() < 6 { &[] } else { &words[6..] }
+        &self.words[6..]
     }
 }
 
 // The words of a file or of standard input, and where they come from.
-#[derive(Drop)]
+#[derive(Debug, Drop)]
 pub struct Source {
     name: String,
     listing: Listing,
 }
 
 impl Source {
+    ghost use Rattle.console.specs.Loaded.{Told};
+    ghost use Rattle.listing.specs.Text.{shown};
+
     pub fn from_stdin(rt: &HostRuntime, room: Room) -> Result<Source, Failure> {
-        let mut listing = Listing::new(rt.alloc(), room)?;
-        let end = read_text(rt.stdin(), &mut listing);
         let name = String::from_str(rt.alloc(), "standard input")?;
-        Source::ended(name, listing, end)
+        Source::from_input(rt.alloc(), room, name, rt.stdin())
     }
 
     pub fn from_file(rt: &HostRuntime, room: Room, path: String) -> Result<Source, Failure> {
-        let mut listing = Listing::new(rt.alloc(), room)?;
-        let end = match fs::open(rt, path.as_str()) {
-            Err(error) => Err(Stop::Input(error)),
-            Ok(file) => read_text(file, &mut listing),
-        };
-        Source::ended(path, listing, end)
+        match fs::open(rt, path.as_str()) {
+            Ok(file) => Source::from_input(rt.alloc(), room, path, file),
+            Err(error) => Err(Failure::File(path, error)),
+        }
     }
 
     // A text that is there already, under a name for messages.
     pub fn from_text(heap: Global, room: Room, name: &str, text: &[u8]) -> Result<Source, Failure> {
-        let mut listing = Listing::new(heap, room)?;
-        let end = read_text(text, &mut listing);
-        Source::ended(String::from_str(heap, name)?, listing, end)
+        let name = String::from_str(heap, name)?;
+        Source::from_input(heap, room, name, text)
     }
 
-    fn ended(name: String, listing: Listing, end: Result<(), Stop>) -> Result<Source, Failure> {
-        match end {
-            Ok(()) => Ok(Source { name, listing }),
+    fn from_input<R: Read + Drop>(
+        heap: Global,
+        room: Room,
+        name: String,
+        input: R,
+    ) -> Result<Source, Failure> {
+        let mut listing = Listing::new(heap, room)?;
+        match read_pieces(input, |piece| listing.feed(piece)) {
+            Ok(()) => {
+                listing.finish();
+                Ok(Source { name, listing })
+            }
             Err(Stop::Input(error)) => Err(Failure::File(name, error)),
-            Err(Stop::Text(flaw)) => {
-                let line = listing.line();
-                let word = listing.words().len().saturating_add(1);
-                Err(Failure::Text {
+            Err(Stop::Flaw(flaw)) => {
+                let place = Place {
                     file: name,
-                    line,
-                    word,
-                    flaw,
-                })
+                    line: listing.line(),
+                    word: listing.words().len().saturating_add(1),
+                };
+                Err(Failure::Text(place, flaw))
             }
         }
     }
@@ -155,18 +99,13 @@ impl Source {
                 Ok(Program { name, cache, words })
             }
             Err(fault) => {
-                let line = match listing.line_of(fault.place) {
-                    Some(line) => line,
-                    None => listing.line(),
-                };
-                let word = fault.place.saturating_add(1);
-                let rule = fault.rule;
-                Err(Failure::Words {
+                let line = listing.line_of(fault.place).unwrap_or(listing.line());
+                let place = Place {
                     file: name,
                     line,
-                    word,
-                    rule,
-                })
+                    word: fault.place.saturating_add(1),
+                };
+                Err(Failure::Words(place, fault.rule))
             }
         }
     }

@@ -1,63 +1,84 @@
-use machine::observer::{Access, Observer};
+ghost use Rattle.std.specs.Prelude.{◌≡◌, Ok};
+
+use machine::cache::Outcome;
+use machine::observer::{Access, Event, Observer};
+use machine::player::Played;
 use machine::tally::Tally;
 use std::io::Write;
 use std::{fmt, io};
 
-pub fn write_header<W: Write>(out: &mut W) -> io::Result<()> {
-    writeln!(
-        out,
-        "       cycle  cycles  what     address        line  set      evicts"
-    )
-}
+// The heads of the columns, as wide as they are in each row.
+pub(crate) const HEADER: &str =
+    "       cycle  cycles  what     address        line  set      evicts";
 
-fn write_work<W: Write>(out: &mut W, start: u64, cycles: u32) -> io::Result<()> {
-    writeln!(
-        out,
-        "{start:>12}  {cycles:>6}  work           -           -    -           -"
-    )
-}
+// The line that a touch evicts, or a dash.
+#[derive(Clone, Copy)]
+struct Evicted(Option<u32>);
 
-fn write_touch<W: Write>(out: &mut W, access: Access) -> io::Result<()> {
-    let start = access.start;
-    let cycles = access.cycles;
-    let what = if access.hit { "hit " } else { "miss" };
-    let address = access.address;
-    let line = access.line;
-    let set = access.set;
-    write!(
-        out,
-        "{start:>12}  {cycles:>6}  {what}  {address:>10}  {line:>10}  {set:>3}"
-    )?;
-    match access.evicted {
-        None => writeln!(out, "           -"),
-        Some(evicted) => writeln!(out, "  {evicted:>10}"),
+impl fmt::Display for Evicted {
+    fn fmt<W: fmt::Write>(&self, f: &mut fmt::Formatter<W>) -> fmt::Result {
+        match self.0 {
+            Some(line) => line.fmt(f),
+            None => f.pad("-"),
+        }
     }
 }
 
-// Writes a line for each work and touch, up to the first error that it meets.
+// A row of the trace.
+#[derive(Clone, Copy)]
+struct Row(Event);
+
+impl fmt::Display for Row {
+    fn fmt<W: fmt::Write>(&self, f: &mut fmt::Formatter<W>) -> fmt::Result {
+        match self.0 {
+            Event::Work(start, cycles) => write!(
+                f,
+                "{start:>12}  {cycles:>6}  work           -           -    -           -"
+            ),
+            Event::Touch(access) => {
+                let touched = access.touched;
+                let (what, evicted) = match touched.outcome {
+                    Outcome::Hit => ("hit ", Evicted(None)),
+                    Outcome::Miss { evicted } => ("miss", Evicted(evicted)),
+                };
+                write!(
+                    f,
+                    "{:>12}  {:>6}  {what}  {:>10}  {:>10}  {:>3}  {evicted:>10}",
+                    access.start, touched.cycles, access.address, touched.line, touched.set
+                )
+            }
+        }
+    }
+}
+
+// Writes a row for each work and touch, up to the first error that it meets.
 #[derive(Drop)]
 pub struct Printer<W: Write + Drop> {
     out: W,
-    error: Option<io::Error>,
+    outcome: io::Result<()>,
 }
 
 impl<W: Write + Drop> Printer<W> {
-    pub fn new(out: W) -> Printer<W> {
-        Printer { out, error: None }
+    // No error was met yet.
+    pub fn new(out: W) -> Printer<W>
+        ensures { result ≡ record { out = out; outcome = Ok tt } }
+    {
+        Printer {
+            out,
+            outcome: Ok(()),
+        }
     }
 
-    fn note(&mut self, res: io::Result<()>) {
-        if let Err(error) = res {
-            self.error = Some(error);
+    fn print(&mut self, event: Event) {
+        if self.outcome.is_ok() {
+            self.outcome = writeln!(self.out, "{}", Row(event));
         }
     }
 
     // Writes what is still held, and tells the error if there was one.
     pub fn finish(mut self) -> io::Result<()> {
-        match self.error {
-            Some(error) => Err(error),
-            None => self.out.flush(),
-        }
+        self.outcome?;
+        self.out.flush()
     }
 }
 
@@ -65,17 +86,11 @@ impl<W: Write + Drop> Observer for Printer<W> {
     ghost told = { λ _ _. Unit {0} };
 
     fn work(&mut self, start: u64, cycles: u32) {
-        if self.error.is_none() {
-            let result = write_work(&mut self.out, start, cycles);
-            self.note(result);
-        }
+        self.print(Event::Work(start, cycles));
     }
 
     fn touch(&mut self, access: Access) {
-        if self.error.is_none() {
-            let result = write_touch(&mut self.out, access);
-            self.note(result);
-        }
+        self.print(Event::Touch(access));
     }
 }
 
@@ -87,32 +102,42 @@ struct Count {
     many: &'static str,
 }
 
-impl fmt::Display for Count {
-    fn fmt<W: fmt::Write>(&self, f: &mut fmt::Formatter<W>) -> fmt::Result {
-        let number = self.number;
-        let name = if number == 1 { self.one } else { self.many };
-        write!(f, "{number} {name}")
+impl Count {
+    fn new(number: u64, one: &'static str, many: &'static str) -> Count {
+        Count { number, one, many }
     }
 }
 
-fn counted(number: u64, one: &'static str, many: &'static str) -> Count {
-    Count { number, one, many }
+impl fmt::Display for Count {
+    fn fmt<W: fmt::Write>(&self, f: &mut fmt::Formatter<W>) -> fmt::Result {
+        let name = if self.number == 1 {
+            self.one
+        } else {
+            self.many
+        };
+        write!(f, "{} {name}", self.number)
+    }
 }
 
-pub fn write_total<W: Write>(
-    out: &mut W,
-    time: u64,
-    tally: Tally,
-    choices: usize,
-) -> io::Result<()> {
-    let cycles = counted(time, "cycle", "cycles");
-    let touches = counted(tally.hits.saturating_add(tally.misses), "touch", "touches");
-    let hits = counted(tally.hits, "hit", "hits");
-    let misses = counted(tally.misses, "miss", "misses");
-    let work = counted(tally.work, "cycle", "cycles");
-    let choices = counted(choices as u64, "choice", "choices");
-    writeln!(
-        out,
-        "total {cycles}, {touches}, {hits}, {misses}, {work} of work, {choices}"
-    )
+// What a whole play comes to, the last line of its trace.
+#[derive(Clone, Copy, PartialEq, Eq, Debug)]
+pub struct Total {
+    pub played: Played,
+    pub tally: Tally,
+}
+
+impl fmt::Display for Total {
+    fn fmt<W: fmt::Write>(&self, f: &mut fmt::Formatter<W>) -> fmt::Result {
+        let Tally { hits, misses, work } = self.tally;
+        let cycles = Count::new(self.played.cycles, "cycle", "cycles");
+        let touches = Count::new(hits.saturating_add(misses), "touch", "touches");
+        let hits = Count::new(hits, "hit", "hits");
+        let misses = Count::new(misses, "miss", "misses");
+        let work = Count::new(work, "cycle", "cycles");
+        let choices = Count::new(self.played.choices as u64, "choice", "choices");
+        write!(
+            f,
+            "total {cycles}, {touches}, {hits}, {misses}, {work} of work, {choices}"
+        )
+    }
 }

@@ -2,14 +2,12 @@
 // and plays the file that a line @FILE CHOICES names.
 #![tactic(auto)]
 
-use console::outline::{write_cache, write_program};
-use console::trace::write_total;
-use console::{ChoiceText, Failure, Room, Source};
-use machine::player::{Played, play};
-use machine::tally::Tally;
+use console::outline::write_outline;
+use console::replay::total_of;
+use console::trace::Total;
+use console::{ChoiceText, Failure, Room, Source, ended};
 use std::alloc::{AllocError, Global};
 use std::env;
-use std::io::{BufWriter, Write};
 use std::process::ExitCode;
 
 const ROOM: Room = Room {
@@ -19,15 +17,10 @@ const ROOM: Room = Room {
 
 const MOST_CHOICES: usize = 1000;
 
-const MOST_CELLS: usize = 512;
-
 fn show_file(rt: &HostRuntime, path: String) -> Result<(), Failure> {
     println!(rt; "== {path}")?;
     let program = Source::from_file(rt, ROOM, path)?.read()?;
-    let mut out = BufWriter::new(rt.alloc(), rt.stdout())?;
-    write_cache(&mut out, program.cache)?;
-    write_program(&mut out, rt.alloc(), program.code())?;
-    out.flush()?;
+    write_outline(rt.stdout(), rt.alloc(), &program)?;
     Ok(())
 }
 
@@ -37,40 +30,22 @@ fn judge_text(rt: &HostRuntime, text: &[u8]) -> Result<usize, Failure> {
     Ok(program.code().len())
 }
 
-// Plays a file by choices, and writes the total alone.
-fn replay_total(rt: &HostRuntime, path: &str, digits: &str) -> Result<(), Failure> {
+// What a file comes to, played by choices.
+fn replay_total(rt: &HostRuntime, path: &str, digits: &str) -> Result<Total, Failure> {
     let file = String::from_str(rt.alloc(), path)?;
     let program = Source::from_file(rt, ROOM, file)?.read()?;
-    let mut text = ChoiceText::new(rt.alloc(), MOST_CHOICES)?;
-    if let Err(flaw) = text.feed(digits.as_bytes()) {
-        let (line, column) = text.position();
-        return Err(Failure::Choice { line, column, flaw });
-    }
-    let choices = text.choices();
-    let given = choices.len();
-    let file = program.name.clone()?;
-    let mut cells = vec![in rt.alloc(); 0u32; MOST_CELLS]?;
-    let mut tally = Tally::new();
-    match play(program.words(), choices, &mut cells, &mut tally) {
-        Played::Whole(time, used) => write_total(&mut rt.stdout(), time, tally, used)?,
-        Played::LeftOver(_, used) => return Err(Failure::LeftOver { file, given, used }),
-        Played::RanOut => return Err(Failure::RanOut { file, given }),
-        Played::NoProgram => return Err(Failure::Memory),
-        Played::Few => return Err(Failure::Memory),
-    }
-    Ok(())
+    let text = ChoiceText::from_text(rt.alloc(), MOST_CHOICES, digits)?;
+    total_of(&program, text.choices())
 }
 
 fn judge_replay(rt: &HostRuntime, words: &str) -> Result<(), Failure> {
     let (path, digits) = words.split_once(' ').unwrap_or((words, ""));
     print!(rt; "{path} by '{digits}': ")?;
     match replay_total(rt, path, digits) {
-        Ok(()) => Ok(()),
-        Err(failure) => {
-            println!(rt; "{failure}")?;
-            Ok(())
-        }
+        Ok(total) => println!(rt; "{total}")?,
+        Err(failure) => println!(rt; "{failure}")?,
     }
+    Ok(())
 }
 
 fn judge_line(rt: &HostRuntime, number: usize, text: &[u8]) -> Result<(), Failure> {
@@ -114,11 +89,5 @@ fn run(rt: &HostRuntime) -> Result<(), Failure> {
 }
 
 fn main(rt: HostRuntime) -> ExitCode {
-    match run(&rt) {
-        Ok(()) => ExitCode::SUCCESS,
-        Err(failure) => {
-            let _ = eprintln!(rt; "samples: {failure}");
-            ExitCode::FAILURE
-        }
-    }
+    ended(&rt, "samples", run(&rt))
 }

@@ -1,10 +1,9 @@
 // `wcet [FILE]` shows the cache and the program that the words of FILE, or of standard input, are.
 #![tactic(auto)]
 
-use console::outline::{write_cache, write_program};
-use console::{Failure, Room, Source};
-use std::env;
-use std::io::{BufWriter, Write};
+use console::arguments::{Request, asked};
+use console::outline::write_outline;
+use console::{Failure, Room, Source, ended};
 use std::process::ExitCode;
 
 // With a piece of the text of 4096 bytes, 4 MiB; what the marks take is given back before anything is written.
@@ -39,60 +38,25 @@ Where FILE is no program, a message says which word breaks which rule, nothing i
 written to standard output, and the exit status is 1.
 ";
 
-// What the command line asks for.
-#[derive(Drop)]
-enum Task {
-    Help,
-    Show(Option<String>),
-}
-
-fn asked(rt: &HostRuntime) -> Result<Task, Failure> {
-    let mut file = None;
-    for arg in env::args(rt)?.skip(1) {
-        match arg.as_str() {
-            "--help" => return Ok(Task::Help),
-            "-" => {}
-            option if option.starts_with('-') => {
-                return Err(Failure::Usage("unknown option", arg));
-            }
-            _ => {
-                if file.is_some() {
-                    return Err(Failure::Usage("a second file", arg));
-                }
-                file = Some(arg);
-            }
-        }
-    }
-    Ok(Task::Show(file))
-}
-
 fn show(rt: &HostRuntime, file: Option<String>) -> Result<(), Failure> {
     let source = match file {
         None => Source::from_stdin(rt, ROOM)?,
         Some(path) => Source::from_file(rt, ROOM, path)?,
     };
     let program = source.read()?;
-    let mut out = BufWriter::new(rt.alloc(), rt.stdout())?;
-    write_cache(&mut out, program.cache)?;
-    write_program(&mut out, rt.alloc(), program.code())?;
-    out.flush()?;
+    write_outline(rt.stdout(), rt.alloc(), &program)?;
     Ok(())
 }
 
+// The option - says that standard input is read, as it is where no file is named.
 fn run(rt: &HostRuntime) -> Result<(), Failure> {
-    match asked(rt)? {
-        Task::Help => print!(rt; "{HELP}")?,
-        Task::Show(file) => show(rt, file)?,
+    match asked(rt, "-")? {
+        Request::Help => print!(rt; "{HELP}")?,
+        Request::Run { file, .. } => show(rt, file)?,
     }
     Ok(())
 }
 
 fn main(rt: HostRuntime) -> ExitCode {
-    match run(&rt) {
-        Ok(()) => ExitCode::SUCCESS,
-        Err(failure) => {
-            let _ = eprintln!(rt; "wcet: {failure}");
-            ExitCode::FAILURE
-        }
-    }
+    ended(&rt, "wcet", run(&rt))
 }
