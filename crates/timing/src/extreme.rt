@@ -4,7 +4,7 @@ ghost use Rattle.tables.specs.Showing.{as_good, width as width_of};
 ghost use Rattle.timing.specs.Retelling.{offset as offset_of, told_at};
 
 use cycles::geometry::Geometry;
-use tables::slot::{Extreme, cells, is_as_good, telling_at, width};
+use tables::slot::{Extreme, TELLING, telling_at, width};
 use tables::table::StateIndex;
 use trails::Telling;
 
@@ -13,8 +13,8 @@ fn offset(cache: Geometry, extreme: Extreme) -> usize
     ensures { result ≡ offset_of (cache_of cache) extreme }
 {
     match extreme {
-        Extreme::Longest => cells(cache),
-        Extreme::Shortest => cells(cache) + 7,
+        Extreme::Longest => cache.cells(),
+        Extreme::Shortest => cache.cells() + TELLING,
     }
 }
 
@@ -36,11 +36,7 @@ pub fn best(slots: &[u32], cache: Geometry, count: usize, extreme: Extreme) -> S
     let mut best = 0;
     for k in 1..count {
         let champion = telling_of(slots, cache, StateIndex(best), extreme);
-        if !is_as_good(
-            extreme,
-            champion,
-            telling_of(slots, cache, StateIndex(k), extreme),
-        ) {
+        if !extreme.is_as_good(champion, telling_of(slots, cache, StateIndex(k), extreme)) {
             best = k;
         }
     }

@@ -62,7 +62,6 @@ run-touch_all-requires t c =
     let w = is_touch o.task.fit c.in-Touch.base c.in-Touch.steps.now c.in-Touch.ensures in
     record {
       fits = slots_fit (width (cache c.args.pass.cache)) c.args.slots.now c.loop-cycles.slots c.loop-cycles.invariant.count c.requires.ready.lent c.loop-cycles.auto.slots;
-      low = omega (arith, c.address-address.ensures.bound);
       room = spends o _ w.0 refl c.requires.ready.room;
     }
 

@@ -1,7 +1,5 @@
-use Rattle.std.proofs.Common.{◌≡◌, ℕ, ◌+◌, ◌-◌, ◌*◌, ◌<◌, ◌≤◌, ◌++◌, map, length, take, drop, sym, refl, ◌∙◌, subst, ap₂, arith}
-use borrow.Rule.Slice.PartMut.{put_mid}
+use Rattle.std.proofs.Common.{◌≡◌, ◌+◌, ◌<◌, ◌≤◌, ◌++◌, map, length, sym, refl, ◌∙◌, ap₂, arith}
 use Rattle.cycles.specs.Reading.{cache}
-use Rattle.cycles.specs.declared.Timed.TheVariants.{Times, Crowded, OutFull, Few}
 use Rattle.trails.specs.Trails.{bit}
 use Rattle.tables.specs.declared.slot.Extreme.TheVariants.{Longest, Shortest}
 use Rattle.timing.proofs.Ends.{first_pass, told_crowded, all_fit, slot_fits, chosen, tellable, is_longest, is_shortest, bits_map, first_long, second_long, both_told, both_kept}
