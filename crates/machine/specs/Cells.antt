@@ -1,8 +1,8 @@
 -- A state of the cache as cells: for each set its ways, 0 for an empty way and else the line's number plus one, the line that is evicted last first.
-use Rattle.std.specs.Prelude.{◌≡◌, ℕ, zero, suc, Bool, true, false, List, [], ◌∷◌, length, take, drop, Some, None, Option, nat_lt}
+use Rattle.std.specs.Prelude.{◌≡◌, ℕ, zero, suc, Bool, true, false, ◌||◌, List, [], ◌∷◌, length, take, drop, Some, None, Option, nat_lt}
 use Rattle.machine.specs.declared.cache.Outcome.{Outcome}
 use Rattle.machine.specs.declared.cache.Outcome.TheVariants.{Hit, Miss}
-use Rattle.cycles.specs.Code.{pick, Cache, St, among, without, line_of, lines_at}
+use Rattle.cycles.specs.Code.{pick, Cache, St, among, without, there, line_of, lines_at}
 
 -- the lines of one set: its ways up to the first that is empty
 unfoldable pub lines_of : List ℕ → List ℕ
@@ -51,14 +51,16 @@ abbrev pub is_hit : Outcome → Bool
 is_hit Hit = true
 is_hit (Miss evicted) = false
 
--- the line that goes out of a set of so many ways as another comes in: none if a way is free, and else the last
-abbrev pub out_of : ℕ → List ℕ → Option ℕ
-out_of ways ls = pick (nat_lt (length ls) ways) None (last_of ls)
+-- the line that goes out of a set of so many ways as a line of it is touched: none on a hit or if a way is free, and else the last
+abbrev pub out_of : ℕ → ℕ → List ℕ → Option ℕ
+out_of ways l ls = pick (among l ls || nat_lt (length ls) ways) None (last_of ls)
 
--- what touching a line does to a set of so many ways
+abbrev pub goes : Cache → St → ℕ → Option ℕ
+goes c s a = out_of c.ways (line_of c a) (lines_at c s a)
+
+-- what touching a line does to a set of so many ways, and what touching an address does
 abbrev pub outcome_in : ℕ → ℕ → List ℕ → Outcome
-outcome_in ways l ls = pick (among l ls) Hit (Miss (out_of ways ls))
+outcome_in ways l ls = pick (among l ls) Hit (Miss (out_of ways l ls))
 
--- what touching an address does
 abbrev pub outcome_of : Cache → St → ℕ → Outcome
-outcome_of c s a = outcome_in c.ways (line_of c a) (lines_at c s a)
+outcome_of c s a = pick (there c s a) Hit (Miss (goes c s a))
