@@ -15,8 +15,5 @@ returns-in_default c = promised c.args.words.now c.args.most (length c.args.work
 pub split_at_mut-slots-requires : goal.split_at_mut-slots-requires
 split_at_mut-slots-requires c = subst (λ w. w * c.args.most ≤ length c.args.work.now) (sym c.width.ensures) (slots_fit c.in-Ok.cache (length c.args.words.now) c.args.most (length c.args.work.now) (enough c.is_few.result (length c.args.work.now) (length c.args.words.now) c.args.most c.is_few.ensures c.if-is_few.false))
 
-pub time_within-requires : goal.time_within-requires
-time_within-requires c = record { reads = c.in-Ok.ensures.says; fits = subst (λ w. w * c.args.most ≤ length c.split_at_mut-slots.result.0.now) c.width.ensures (omega (arith, c.split_at_mut-slots.ensures.front_len)) }
-
 pub returns : goal.returns
 returns c = promised c.args.words.now c.args.most (length c.args.work.now) c.args.choices.now c.time_within.new.choices c.time_within.result (enough c.is_few.result (length c.args.work.now) (length c.args.words.now) c.args.most c.is_few.ensures c.if-is_few.false) c.time_within.ensures.enough c.time_within.ensures.says

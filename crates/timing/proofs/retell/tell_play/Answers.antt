@@ -3,7 +3,7 @@ use borrow.Rule.Slice.PartMut.{put_mid, same_len_mid}
 use Rattle.std.proofs.lemmas.List.{take_rest}
 use Rattle.cycles.specs.Reading.{cache}
 use Rattle.tables.specs.Showing.{firsts_of, width}
-use Rattle.timing.specs.Retelling.{Fitting, side}
+use Rattle.timing.specs.Retelling.{side}
 use Rattle.timing.proofs.Hearing.{Written, heard_as, entry_fits, heard_long, heard_some, written_first, written_more, written_all}
 use Rattle.timing.proofs.retell.tell_play.Goals as goal
 
@@ -27,9 +27,6 @@ loop-told-init c =
       λ r z. record { a = r.a; from = z; holding = r.holding },
     )
 
-pub again-requires : goal.again-requires
-again-requires c = ((cache c.args.teller.cache), subst (λ n. Fitting c.args.teller.words.now (cache c.args.teller.cache) c.args.teller.most n) (sym c.loop-told.auto.slots) c.requires.fitting)
-
 pub telling_of-further-requires : goal.telling_of-further-requires
 telling_of-further-requires c = subst (λ n. width (cache c.args.teller.cache) * c.args.teller.entry.0 + width (cache c.args.teller.cache) ≤ n) (sym (c.again.auto.slots ∙ c.loop-told.auto.slots)) (entry_fits c.requires.fitting c.requires.at)
 
@@ -40,13 +37,6 @@ tell-told-requires-in-loop-told c =
     let e : take (length c.loop-told.out - c.loop-told.told) (drop c.loop-told.told c.loop-told.out) ≡ drop c.loop-told.told c.loop-told.out = simp take_rest in
     let l : length c.loop-told.out ≡ length (side c.args.teller.extreme r.e.val).choices = c.loop-told.auto.out ∙ c.tell-told.auto.out ∙ r.long in
     record { room = rw e (omega (arith, length-drop c.loop-told.told c.loop-told.out, heard_long l m)); lies = m.sound.lies }
-
-pub overflow_add-told : goal.overflow_add-told
-overflow_add-told c =
-    let p = c.requires in
-    let b : length c.loop-told.out ≡ length (side c.args.teller.extreme p.e.val).choices = c.loop-told.auto.out ∙ c.tell-told.auto.out ∙ p.long in
-    let h = heard_long b (heard_as c.args.teller.extreme c.firsts_from-firsts.ensures.0 c.telling_of-further.ensures (c.again.ensures (cache c.args.teller.cache) p.fitting.p p.fitting.reads) p.at) in
-    omega (arith, h, c.tell-told-in-loop-told.ensures.many, c.loop-told-test.true)
 
 pub loop-told-smaller : goal.loop-told-smaller
 loop-told-smaller c =

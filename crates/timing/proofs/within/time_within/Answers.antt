@@ -1,24 +1,13 @@
-use Rattle.std.proofs.Common.{◌≡◌, ℕ, ◌+◌, ◌-◌, ◌*◌, ◌<◌, ◌≤◌, ◌++◌, map, length, take, drop, sym, refl, ◌∙◌, subst, ap₂, arith}
-use borrow.Rule.Slice.PartMut.{put_mid}
+use Rattle.std.proofs.Common.{◌≡◌, ◌+◌, ◌<◌, ◌≤◌, ◌++◌, map, length, sym, refl, ◌∙◌, ap₂, arith}
 use Rattle.cycles.specs.Reading.{cache}
-use Rattle.cycles.specs.declared.Timed.TheVariants.{Times, Crowded, OutFull, Few}
 use Rattle.trails.specs.Trails.{bit}
 use Rattle.tables.specs.declared.slot.Extreme.TheVariants.{Longest, Shortest}
-use Rattle.timing.proofs.Ends.{first_pass, told_crowded, all_fit, slot_fits, chosen, tellable, is_longest, is_shortest, bits_map, first_long, second_long, both_told, both_kept}
+use Rattle.timing.proofs.Ends.{first_pass, told_crowded, slot_fits, chosen, tellable, is_longest, is_shortest, bits_map, first_long, second_long, both_told, both_kept}
 use Rattle.timing.proofs.within.time_within.Goals as goal
 use Rattle.timing.proofs.within.time_within.Goals.{then-longest-bytes-via-then-longest-bytes, then-longest-bytes-via-else-longest-bytes+then-shortest-bytes}
 
 pub returns-in_default-clause-says : goal.returns-in_default-clause-says
 returns-in_default-clause-says c = told_crowded c.requires.reads.1 c.requires.fits c.tabulate.result c.args.choices.now c.tabulate.ensures c.in_default.not-Ok
-
-pub best-long-requires : goal.best-long-requires
-best-long-requires c = let d = first_pass c.requires.reads.1 c.requires.fits c.tabulate.auto.slots c.in-Ok.ensures in record { some = d.some; fits = all_fit d }
-
-pub best-short-requires : goal.best-short-requires
-best-short-requires c = let d = first_pass c.requires.reads.1 c.requires.fits c.tabulate.auto.slots c.in-Ok.ensures in record { some = d.some; fits = all_fit d }
-
-pub telling_of-longest-requires : goal.telling_of-longest-requires
-telling_of-longest-requires c = slot_fits (first_pass c.requires.reads.1 c.requires.fits c.tabulate.auto.slots c.in-Ok.ensures) c.best-long.result.0 c.best-long.ensures.within
 
 pub telling_of-shortest-requires : goal.telling_of-shortest-requires
 telling_of-shortest-requires c = slot_fits (first_pass c.requires.reads.1 c.requires.fits c.tabulate.auto.slots c.in-Ok.ensures) c.best-short.result.0 c.best-short.ensures.within
