@@ -94,7 +94,7 @@ module _ {ws : List ℕ} {c : Cache} {p : P} {a : Both ℕ} {most n : ℕ} {xs s
   pub chosen : (x : Extreme) (k : ℕ) (t : Telling) → k < n → ((j : ℕ) → j < n → as_good x (told_at c x k xs) (told_at c x j xs) ≡ true) → t ≡ told_at c x k xs → Chosen c p x k t
   chosen x k t l g is =
       let (e, at) = entry_at k (behind c p) (omega (arith, d.many)) in
-      let m = heard_as c p x a (side x a) xs st e k (told_at c x k xs) refl refl d.holding at in
+      let m = heard_as x refl refl d.holding at in
       record {
         e = e;
         at = at;
@@ -102,7 +102,7 @@ module _ {ws : List ℕ} {c : Cache} {p : P} {a : Both ℕ} {most n : ℕ} {xs s
         count = ap (λ z. z.count) is ∙ m.tells.count;
         best = λ f i.
             let (j, b) = place_of i in
-            let q = heard_as c p x a (side x a) xs st f j (told_at c x j xs) refl refl d.holding b in
+            let q = heard_as x refl refl d.holding b in
             sym (compares x (told_at c x k xs) (told_at c x j xs) (side x e.val) (side x f.val) m.time m.tells.count q.time q.tells.count) ∙ g j (omega (arith, at_less b, d.many));
       }
 

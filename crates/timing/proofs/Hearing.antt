@@ -40,28 +40,28 @@ heard c p x a xs st e k h at =
     subst (λ t. Matches (side x a) st t (side x e.val)) (sym (told_chunk c x k xs)) (record { time = m.time; sound = sound_within (side x a) h.top st _ m.sound; tells = tells_within (side x a) h.top st _ (side x e.val).choices m.sound m.tells })
 
 -- as the code reads it, from a number n on
-pub heard_as : (c : Cache) (p : P) (x : Extreme) (a : Both ℕ) (n : ℕ) (xs st : List ℕ) (e : Entry (Both Val)) (k : ℕ) (t : Telling) → side x a ≡ n → t ≡ told_at c x k xs → Holding c p a xs st → At e k (behind c p) → Matches n st t (side x e.val)
-heard_as c p x a n xs st e k t i j h at = subst (λ z. Matches z st t (side x e.val)) i (subst (λ z. Matches (side x a) st z (side x e.val)) (sym j) (heard c p x a xs st e k h at))
+pub heard_as : {c : Cache} {p : P} {a : Both ℕ} {n : ℕ} {xs st : List ℕ} {e : Entry (Both Val)} {k : ℕ} {t : Telling} (x : Extreme) → side x a ≡ n → t ≡ told_at c x k xs → Holding c p a xs st → At e k (behind c p) → Matches n st t (side x e.val)
+heard_as {c} {p} {a} {n} {xs} {st} {e} {k} {t} x i j h at = subst (λ z. Matches z st t (side x e.val)) i (subst (λ z. Matches (side x a) st z (side x e.val)) (sym j) (heard c p x a xs st e k h at))
 
 -- the slot of an entry lies within the words
-pub entry_fits : (ws : List ℕ) (c : Cache) (most lent k : ℕ) (f : Fitting ws c most lent) (e : Entry (Both Val)) → At e k (behind c f.p) → width c * k + width c ≤ lent
-entry_fits ws c most lent k f e at = let l = at_less at in let w = f.few in within (width c) k most lent (omega arith) f.fits
+pub entry_fits : {ws : List ℕ} {c : Cache} {most lent k : ℕ} {e : Entry (Both Val)} (f : Fitting ws c most lent) → At e k (behind c f.p) → width c * k + width c ≤ lent
+entry_fits {c = c} {most} {lent} {k} f at = let l = at_less at in let w = f.few in within (width c) k most lent (omega arith) f.fits
 
 -- a front of a play's choices is written
 abbrev pub Written : ℕ → List ℕ → List Bool → Type 0
 Written n out bs = take n out ≡ map bit (take n bs)
 
 -- how far a telling's record goes
-pub heard_long : (a n : ℕ) (st : List ℕ) (t : Telling) (v : Val) → n ≡ length v.choices → Matches a st t v → t.recorded ≤ n - a
-heard_long a n st t v l m = omega (arith, m.sound.within, m.tells.count)
+pub heard_long : {a n : ℕ} {st : List ℕ} {t : Telling} {v : Val} → n ≡ length v.choices → Matches a st t v → t.recorded ≤ n - a
+heard_long l m = omega (arith, m.sound.within, m.tells.count)
 
-pub heard_some : (a n : ℕ) (st : List ℕ) (t : Telling) (v : Val) → n ≡ length v.choices → a < n → Matches a st t v → 0 < t.recorded
-heard_some a n st t v l h m = ⊎_elim (λ e. omega (arith, e, m.tells.count)) (λ e. omega (arith, e.0)) m.sound.all
+pub heard_some : {a n : ℕ} {st : List ℕ} {t : Telling} {v : Val} → n ≡ length v.choices → a < n → Matches a st t v → 0 < t.recorded
+heard_some l h m = ⊎_elim (λ e. omega (arith, e, m.tells.count)) (λ e. omega (arith, e.0)) m.sound.all
 
 -- the first record
-pub written_first : (st out out' : List ℕ) (t : Telling) (v : Val) → length out ≡ length v.choices → Matches 0 st t v → out' ≡ map bit (take t.recorded v.choices) ++ drop t.recorded out → Written t.recorded out' v.choices
-written_first st out out' t v l m e =
-    let r = heard_long 0 (length out) st t v l m in
+pub written_first : {st : List ℕ} (out out' : List ℕ) {t : Telling} {v : Val} → length out ≡ length v.choices → Matches 0 st t v → out' ≡ map bit (take t.recorded v.choices) ++ drop t.recorded out → Written t.recorded out' v.choices
+written_first out out' {t} {v} l m e =
+    let r = heard_long l m in
     let k : length (map bit (take t.recorded v.choices)) ≡ t.recorded = length-map (take t.recorded v.choices) bit ∙ length-take-le t.recorded v.choices (omega arith) in
     ap (take t.recorded) e ∙ take_at (map bit (take t.recorded v.choices)) (drop t.recorded out) t.recorded k
 
@@ -71,9 +71,9 @@ take_plus (suc n) m [] = rw suc-add (sym (take_all m [] (omega arith)))
 take_plus (suc n) m (x ∷ xs) = rw suc-add (ap (λ t. x ∷ t) (take_plus n m xs))
 
 -- one record more, written behind what is written
-pub written_more : (st out part : List ℕ) (t : Telling) (v : Val) (n m : ℕ) → n < length out → length out ≡ length v.choices → m ≡ length out - n → Matches n st t v → Written n out v.choices → part ≡ map bit (take t.recorded (drop n v.choices)) ++ drop t.recorded (take m (drop n out)) → Written (n + t.recorded) (put_mid n m out part) v.choices
-written_more st out part t v n m h l w q old e =
-    let r = heard_long n (length out) st t v l q in
+pub written_more : {st : List ℕ} (out part : List ℕ) {t : Telling} {v : Val} (n m : ℕ) → n < length out → length out ≡ length v.choices → m ≡ length out - n → Matches n st t v → Written n out v.choices → part ≡ map bit (take t.recorded (drop n v.choices)) ++ drop t.recorded (take m (drop n out)) → Written (n + t.recorded) (put_mid n m out part) v.choices
+written_more out part {t} {v} n m h l w q old e =
+    let r = heard_long l q in
     let d = length-drop n v.choices in
     let k : length (map bit (take t.recorded (drop n v.choices))) ≡ t.recorded = length-map (take t.recorded (drop n v.choices)) bit ∙ length-take-le t.recorded (drop n v.choices) (omega arith) in
     let i : length (take n out) ≡ n = length-take-le n out (omega arith) in
@@ -83,5 +83,5 @@ written_more st out part t v n m h l w q old e =
     ap (take (n + t.recorded)) f ∙ take_at (take n out ++ x) _ (n + t.recorded) j ∙ ap (λ z. z ++ x) old ∙ sym (map-append bit (take n v.choices) (take t.recorded (drop n v.choices))) ∙ ap (map bit) (sym (take_plus n t.recorded v.choices))
 
 -- all is written
-pub written_all : (n : ℕ) (out : List ℕ) (bs : List Bool) → length out ≤ n → length out ≡ length bs → Written n out bs → out ≡ map bit bs
-written_all n out bs h l w = sym (take_all n out h) ∙ w ∙ ap (map bit) (take_all n bs (omega arith))
+pub written_all : {n : ℕ} (out : List ℕ) (bs : List Bool) → length out ≤ n → length out ≡ length bs → Written n out bs → out ≡ map bit bs
+written_all {n} out bs h l w = sym (take_all n out h) ∙ w ∙ ap (map bit) (take_all n bs (omega arith))

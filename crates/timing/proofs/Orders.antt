@@ -1,5 +1,5 @@
 -- Which of two tellings is at least as good: an order in which any two compare.
-use Rattle.std.proofs.Common.{◌≡◌, ℕ, zero, suc, ◌+◌, ◌<◌, true, false, arith, below_more}
+use Rattle.std.proofs.Common.{◌≡◌, ℕ, ◌+◌, ◌<◌, true, false, arith, below_more}
 use Rattle.trails.specs.declared.telling.Telling.{Telling}
 use Rattle.tables.specs.declared.slot.Extreme.{Extreme}
 use Rattle.tables.specs.declared.slot.Extreme.TheVariants.{Longest, Shortest}
@@ -20,10 +20,6 @@ good_total Shortest t u h = grind arith
 -- the best of the first k, by the tellings f
 abbrev pub Champion : Extreme → (ℕ → Telling) → ℕ → ℕ → Type 0
 Champion x f b k = (j : ℕ) → j < k → as_good x (f b) (f j) ≡ true
-
-pub champion_first : (x : Extreme) (f : ℕ → Telling) → Champion x f 0 1
-champion_first x f zero h = good_itself x (f 0)
-champion_first x f (suc j) h = absurd (omega arith)
 
 pub champion_stays : (x : Extreme) (f : ℕ → Telling) (b k : ℕ) → Champion x f b k → as_good x (f b) (f k) ≡ true → Champion x f b (k + 1)
 champion_stays x f b k c h = below_more (λ j. as_good x (f b) (f j) ≡ true) k c h

@@ -1,6 +1,7 @@
 -- A table that lent words hold, pass after pass, and the play that one of its entries tells.
 use Rattle.std.specs.Prelude.{◌≡◌, ℕ, ◌+◌, ◌*◌, ◌≤◌, List, length, take, drop}
 use Rattle.cycles.specs.Code.{P, Cache}
+use Rattle.cycles.specs.Reading.{cache}
 use Rattle.cycles.specs.Rows.{Reads}
 use Rattle.trails.specs.declared.telling.Telling.{Telling}
 use Rattle.trails.specs.Trails.{telling_of}
@@ -11,6 +12,7 @@ use Rattle.tables.specs.Each.{At}
 use Rattle.tables.specs.Showing.{Shows, cells, width}
 use Rattle.tables.specs.Tables.{Entry}
 use Rattle.engine.specs.Tabulating.{asked, behind}
+use Rattle.timing.specs.declared.retell.Teller.{Teller}
 
 -- of two, the one for a longest or for a shortest time, and the other
 abbrev pub side : {A : Type 0} → Extreme → Both A → A
@@ -53,6 +55,10 @@ pub record Tellable (ws : List ℕ) (c : Cache) (most : ℕ) (x : Extreme) (k by
   pub a : Both ℕ
   pub from : side x a ≡ 0
   pub holding : Holding c fitting.p a xs st
+
+-- the same, by a teller
+abbrev pub TellableBy : Teller → ℕ → List ℕ → List ℕ → Type 0
+TellableBy t bytes xs st = Tellable t.words.now (cache t.cache) t.most t.extreme t.entry.0 bytes xs st
 
 -- the same table is held, with the other tellings' choices recorded from the first on
 pub record Still (c : Cache) (p : P) (x : Extreme) (xs st : List ℕ) : Type 0 where

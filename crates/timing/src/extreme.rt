@@ -36,7 +36,8 @@ pub fn best(slots: &[u32], cache: Geometry, count: usize, extreme: Extreme) -> S
     let mut best = 0;
     for k in 1..count {
         let champion = telling_of(slots, cache, StateIndex(best), extreme);
-        if !extreme.is_as_good(champion, telling_of(slots, cache, StateIndex(k), extreme)) {
+        let rival = telling_of(slots, cache, StateIndex(k), extreme);
+        if !extreme.is_as_good(champion, rival) {
             best = k;
         }
     }

@@ -4,7 +4,7 @@ ghost use Rattle.cycles.specs.Reading.{cache as cache_of};
 ghost use Rattle.cycles.specs.Rows.{Reads};
 ghost use Rattle.tables.specs.Best.{Both};
 ghost use Rattle.tables.specs.Showing.{firsts_of};
-ghost use Rattle.timing.specs.Retelling.{Fitting, Holding, Still, Tellable, other, side};
+ghost use Rattle.timing.specs.Retelling.{Fitting, Holding, Still, TellableBy, other, side};
 ghost use Rattle.trails.specs.Trails.{bit};
 
 use crate::extreme::telling_of;
@@ -50,9 +50,9 @@ fn again(words: &[u32], firsts: Firsts, most: u32, slots: &mut [u32], store: &mu
 
 // Writes all choices of a play: those that the slots have recorded, and by further passes the rest.
 pub fn tell_play(teller: Teller<'_>, out: &mut [u8], slots: &mut [u32], store: &mut [u32])
-    requires { Tellable teller.words.now (cache_of teller.cache) teller.most teller.extreme teller.entry.0 (length out.old) slots.old store.old }
-    ensures told { (r : Tellable teller.entry.words.now (cache_of teller.entry.cache) teller.entry.most teller.entry.extreme teller.entry.entry.0 (length out.old) slots.old store.old) → out.new ≡ map bit (side teller.entry.extreme r.e.val).choices }
-    ensures still { (r : Tellable teller.entry.words.now (cache_of teller.entry.cache) teller.entry.most teller.entry.extreme teller.entry.entry.0 (length out.old) slots.old store.old) → side (other teller.entry.extreme) r.a ≡ 0 → Still (cache_of teller.entry.cache) r.fitting.p teller.entry.extreme slots.new store.new }
+    requires { TellableBy teller (length out.old) slots.old store.old }
+    ensures told { (r : TellableBy teller.entry (length out.old) slots.old store.old) → out.new ≡ map bit (side teller.entry.extreme r.e.val).choices }
+    ensures still { (r : TellableBy teller.entry (length out.old) slots.old store.old) → side (other teller.entry.extreme) r.a ≡ 0 → Still (cache_of teller.entry.cache) r.fitting.p teller.entry.extreme slots.new store.new }
 {
     let extreme = teller.extreme;
     let telling = telling_of(slots, teller.cache, teller.entry, extreme);
