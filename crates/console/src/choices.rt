@@ -1,7 +1,7 @@
 ghost use Rattle.std.specs.Prelude.{◌≡◌, ◌++◌, ◌≤◌, OnOk, IfOk, vec_len, vec_capacity};
 
 use crate::failure::Failure;
-use crate::input::{Stop, read_pieces};
+use crate::input::{STANDARD_INPUT, Stop, read_pieces};
 use listing::ShownByte;
 use std::alloc::{AllocError, Global};
 use std::error::Error;
@@ -95,7 +95,7 @@ impl ChoiceText {
         match read_pieces(rt.stdin(), |piece| text.feed(piece)) {
             Ok(()) => Ok(text),
             Err(Stop::Input(error)) => {
-                let name = String::from_str(rt.alloc(), "standard input")?;
+                let name = String::from_str(rt.alloc(), STANDARD_INPUT)?;
                 Err(Failure::File(name, error))
             }
             Err(Stop::Flaw(flaw)) => Err(Failure::Choice(text.position(), flaw)),

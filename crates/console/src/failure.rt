@@ -3,6 +3,7 @@ ghost use Rattle.console.specs.declared.failure.Failure.TheVariants.{Memory};
 ghost use Rattle.std.specs.Process.{exit_status};
 
 use crate::choices::{BadChoice, Position};
+use crate::input::STANDARD_INPUT;
 use cycles::fault::Rule;
 use listing::Flaw;
 use machine::player::PlayError;
@@ -13,13 +14,13 @@ use std::{fmt, io};
 
 // A word of a file, and the line on which it stands, both counted from 1.
 #[derive(Debug, Drop)]
-pub struct Place {
+pub struct Location {
     pub file: String,
     pub line: usize,
     pub word: usize,
 }
 
-impl fmt::Display for Place {
+impl fmt::Display for Location {
     fn fmt<W: fmt::Write>(&self, f: &mut fmt::Formatter<W>) -> fmt::Result {
         write!(f, "{}:{}: word {}", self.file, self.line, self.word)
     }
@@ -34,9 +35,9 @@ pub enum Failure {
     // a file that cannot be read
     File(String, io::Error),
     // a text that is no list of words
-    Text(Place, Flaw),
+    Text(Location, Flaw),
     // words that are no program
-    Words(Place, Rule),
+    Words(Location, Rule),
     // a text that is no list of choices
     Choice(Position, BadChoice),
     // a program that so many choices do not play
@@ -57,7 +58,7 @@ impl fmt::Display for Failure {
             Failure::File(file, error) => write!(f, "{file}: {error}"),
             Failure::Text(place, flaw) => write!(f, "{place}: {flaw}"),
             Failure::Words(place, rule) => write!(f, "{place}: {rule}"),
-            Failure::Choice(position, flaw) => write!(f, "standard input:{position}: {flaw}"),
+            Failure::Choice(position, flaw) => write!(f, "{STANDARD_INPUT}:{position}: {flaw}"),
             Failure::Play {
                 file,
                 given,

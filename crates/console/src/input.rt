@@ -1,6 +1,9 @@
 use std::io;
 use std::io::Read;
 
+// What messages call it.
+pub(crate) const STANDARD_INPUT: &str = "standard input";
+
 const PIECE: usize = 4096;
 
 // Why an input was not read to its end.

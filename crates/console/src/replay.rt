@@ -1,9 +1,8 @@
 ghost use Rattle.console.specs.Totals.{Totals};
 
-use crate::failure::Failure;
 use crate::source::Program;
 use crate::trace::{HEADER, Printer, Total};
-use machine::player::play;
+use machine::player::{PlayError, play};
 use machine::tally::Tally;
 use std::io;
 use std::io::Write;
@@ -11,20 +10,14 @@ use std::io::Write;
 // The ways of the largest cache.
 const MOST_CELLS: usize = 512;
 
-// What a play of the program by the choices comes to.
-pub fn total_of(program: &Program, choices: &[bool]) -> Result<Total, Failure>
+// What a play of the program by the choices comes to, or why there is none.
+pub fn total_of(program: &Program, choices: &[bool]) -> Result<Total, PlayError>
     ensures { Totals program.now.words.items choices.now result }
 {
     let mut cells = [0u32; MOST_CELLS];
     let mut tally = Tally::new();
-    match play(program.words(), choices, &mut cells, &mut tally) {
-        Ok(played) => Ok(Total { played, tally }),
-        Err(error) => Err(Failure::Play {
-            file: program.name.clone()?,
-            given: choices.len(),
-            error,
-        }),
-    }
+    let played = play(program.words(), choices, &mut cells, &mut tally)?;
+    Ok(Total { played, tally })
 }
 
 // Shows each work and touch of a play, as far as it comes.
@@ -44,7 +37,9 @@ pub fn write_trace<W: Write + Drop>(
 #[cfg(test)]
 mod tests {
     use super::*;
+    use crate::failure::Failure;
     use crate::source::{Room, Source};
+    use machine::player::Played;
     use std::alloc::Global;
     use std::test::Fail;
 
@@ -66,7 +61,10 @@ mod tests {
     #[test]
     fn shows_a_play(rt: HostRuntime) -> Result<(), Fail> {
         let program = either(rt.alloc())?;
-        let total = total_of(&program, &[false])?.to_string(rt.alloc())?;
+        let Ok(total) = total_of(&program, &[false]) else {
+            return Err(Fail::new("no play"));
+        };
+        let total = total.to_string(rt.alloc())?;
         assert_eq!(rt;
             total.as_str(),
             "total 20 cycles, 2 touches, 0 hits, 2 misses, 0 cycles of work, 1 choice"
@@ -80,14 +78,15 @@ mod tests {
     #[test]
     fn tells_why_there_is_no_play(rt: HostRuntime) -> Result<(), Fail> {
         let program = either(rt.alloc())?;
-        let Err(failure) = total_of(&program, &[false, true, true]) else {
-            return Err(Fail::new("a play with choices left over"));
+        let left_over = Played {
+            cycles: 20,
+            choices: 1,
         };
-        let message = failure.to_string(rt.alloc())?;
         assert_eq!(rt;
-            message.as_str(),
-            "either: choices left over: 3 are given, and 1 used"
+            total_of(&program, &[false, true, true]),
+            Err(PlayError::LeftOver(left_over))
         );
+        assert_eq!(rt; total_of(&program, &[]), Err(PlayError::RanOut));
         Ok(())
     }
 }

@@ -1,14 +1,20 @@
 ghost use Rattle.std.specs.Prelude.{◌≡◌, ◌≤◌, drop, vec_len};
 
-use crate::failure::{Failure, Place};
-use crate::input::{Stop, read_pieces};
-use cycles::geometry::Geometry;
+use crate::failure::{Failure, Location};
+use crate::input::{STANDARD_INPUT, Stop, read_pieces};
+use cycles::geometry::{CACHE_WORDS, Geometry};
 use cycles::reader::read;
 use listing::Listing;
 pub use listing::Room;
 use std::alloc::Global;
 use std::fs;
 use std::io::Read;
+
+// The most that fits into 4 MiB, with a piece of the text.
+pub const LARGEST: Room = Room {
+    words: 1000448,
+    marks: 1507328,
+};
 
 // A program that was read, with its cache; the cache's six words stand first.
 #[derive(Debug, Drop)]
@@ -31,7 +37,7 @@ impl Program {
     pub fn code(&self) -> &[u32]
         ensures { result.now ≡ drop 6 self.now.words.items }
     {
-        &self.words[6..]
+        &self.words[CACHE_WORDS..]
     }
 }
 
@@ -47,7 +53,7 @@ impl Source {
     ghost use Rattle.listing.specs.Text.{shown};
 
     pub fn from_stdin(rt: &HostRuntime, room: Room) -> Result<Source, Failure> {
-        let name = String::from_str(rt.alloc(), "standard input")?;
+        let name = String::from_str(rt.alloc(), STANDARD_INPUT)?;
         Source::from_input(rt.alloc(), room, name, rt.stdin())
     }
 
@@ -78,7 +84,7 @@ impl Source {
             }
             Err(Stop::Input(error)) => Err(Failure::File(name, error)),
             Err(Stop::Flaw(flaw)) => {
-                let place = Place {
+                let place = Location {
                     file: name,
                     line: listing.line(),
                     word: listing.words().len().saturating_add(1),
@@ -99,8 +105,10 @@ impl Source {
                 Ok(Program { name, cache, words })
             }
             Err(fault) => {
-                let line = listing.line_of(fault.place).unwrap_or(listing.line());
-                let place = Place {
+                let line = listing
+                    .line_of(fault.place)
+                    .unwrap_or_else(|| listing.line());
+                let place = Location {
                     file: name,
                     line,
                     word: fault.place.saturating_add(1),

@@ -1,5 +1,6 @@
 ghost use Rattle.std.specs.Prelude.{◌≡◌, ◌+◌, ◌<◌};
 
+use std::error::Error;
 use std::fmt;
 
 // A rule that words break, with the numbers that its message tells.
@@ -77,7 +78,7 @@ impl Rule {
     }
 }
 
-// Which word is wrong, counted from 0, and the rule that it breaks.
+// Which word is wrong, counted from 0, and the rule that it breaks; messages count from 1.
 #[derive(Clone, Copy, PartialEq, Eq, Debug)]
 pub struct Fault {
     pub place: usize,
@@ -93,3 +94,12 @@ impl Fault {
         self.rule.at(words + self.place)
     }
 }
+
+impl fmt::Display for Fault {
+    fn fmt<W: fmt::Write>(&self, f: &mut fmt::Formatter<W>) -> fmt::Result {
+        let word = self.place.saturating_add(1);
+        write!(f, "word {word}: {}", self.rule)
+    }
+}
+
+impl Error for Fault {}

@@ -4,6 +4,9 @@ use crate::LIMIT;
 use crate::fault::{Fault, Rule};
 use std::fmt;
 
+// The words of a cache, which stand before its program's.
+pub const CACHE_WORDS: usize = 6;
+
 const MOST_SETS: u32 = 64;
 
 const MOST_WAYS: u32 = 8;

@@ -2,12 +2,10 @@ ghost use Rattle.std.specs.Prelude.{◌≤◌, length};
 ghost use Rattle.cycles.specs.Reading.{ReadPost, Scans, Stands};
 
 use crate::fault::{Fault, Rule};
-use crate::geometry::Geometry;
+use crate::geometry::{CACHE_WORDS, Geometry};
 use crate::load::{Load, TOO_MUCH};
 use crate::nest::Nest;
 use crate::node::{Node, first_node};
-
-const CACHE_WORDS: usize = 6;
 
 // Where the words of a program end, and how much it does.
 #[derive(Clone, Copy)]

@@ -6,7 +6,7 @@ ghost use Rattle.tables.specs.Best.{Both, Table, told};
 ghost use Rattle.tables.specs.Showing.{Shows, width as width_of};
 ghost use Rattle.tables.specs.Tables.{chose, dedup};
 
-use cycles::geometry::Geometry;
+use cycles::geometry::{CACHE_WORDS, Geometry};
 use cycles::node::Node;
 use machine::rounds::Rounds;
 use machine::survey::{look_over, node_at};
@@ -23,7 +23,10 @@ pub struct Point {
 
 impl Point {
     // At the first word behind the cache's six, with the entry of the empty cache.
-    pub const START: Point = Point { at: 6, count: 1 };
+    pub const START: Point = Point {
+        at: CACHE_WORDS,
+        count: 1,
+    };
 
     // At another word.
     fn to(self, at: usize) -> Point
@@ -42,7 +45,7 @@ pub struct Fork {
 }
 
 // What a pass goes over: words that are a cache and a program, from which choice on it records, and the rounds of the loops around.
-#[derive(Clone, Copy)]
+#[derive(Clone, Copy, PartialEq, Eq, Debug)]
 pub struct Pass<'a> {
     pub words: &'a [u32],
     pub cache: Geometry,

@@ -7,6 +7,7 @@ use crate::pass::{Pass, Point, run};
 use cycles::fault::Fault;
 use cycles::reader::read;
 use machine::rounds::Rounds;
+use std::error::Error;
 use std::fmt;
 use tables::slot::{Firsts, begin, width};
 use trails::Store;
@@ -39,20 +40,18 @@ impl From<Fault> for TabulateError {
 impl fmt::Display for TabulateError {
     fn fmt<W: fmt::Write>(&self, f: &mut fmt::Formatter<W>) -> fmt::Result {
         match *self {
-            TabulateError::NoProgram(fault) => write!(
-                f,
-                "word {} counted from 0: {}",
-                fault.place, fault.rule
-            ),
+            TabulateError::NoProgram(fault) => write!(f, "{fault}"),
             TabulateError::Few => f.write_str("fewer words than the entries allowed take"),
             TabulateError::Crowded => f.write_str("more entries than allowed"),
         }
     }
 }
 
+impl Error for TabulateError {}
+
 // Computes the table behind a program from the empty cache, in lent words: at most so many entries in the slots, and their trails in the store.
-pub fn tabulate<'a>(
-    words: &'a [u32],
+pub fn tabulate(
+    words: &[u32],
     firsts: Firsts,
     most: u32,
     slots: &mut [u32],

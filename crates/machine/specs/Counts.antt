@@ -1,8 +1,9 @@
 -- Counts of events.
-use Rattle.std.specs.Prelude.{ℕ, ◌+◌, List, [], ◌∷◌}
+use Rattle.std.specs.Prelude.{◌≡◌, ℕ, ◌+◌, min, List, [], ◌∷◌}
 use Rattle.cycles.specs.Code.{pick}
 use Rattle.machine.specs.Cells.{is_hit}
 use Rattle.machine.specs.declared.observer.Event.{Event}
+use Rattle.machine.specs.declared.tally.Tally.{Tally}
 use Rattle.machine.specs.declared.observer.Event.TheVariants.{Work, Touch}
 
 abbrev pub hits_of : Event → ℕ
@@ -30,3 +31,7 @@ misses_in es = total misses_of es
 -- cycles of work
 abbrev pub work_in : List Event → ℕ
 work_in es = total work_of es
+
+-- the counts of a list of events, each up to 2^64 - 1
+abbrev pub Counted : Tally → List Event → Type 0
+Counted t es = (t.hits ≡ min (hits_in es) 18446744073709551615) × (t.misses ≡ min (misses_in es) 18446744073709551615) × (t.work ≡ min (work_in es) 18446744073709551615)

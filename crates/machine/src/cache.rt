@@ -126,6 +126,7 @@ pub fn clear(cells: &mut [u32])
     cells.fill(0);
 }
 
+// The cycles of a hit or of a miss.
 fn cycles(cache: Geometry, outcome: Outcome) -> u32
     ensures { result ≡ pick (is_hit outcome) (cache_of cache).hit (cache_of cache).miss }
 {

@@ -10,9 +10,10 @@ use crate::observer::{Access, Observer};
 use crate::rounds::{Address, Rounds};
 use crate::survey::{look_over, node_at};
 use cycles::fault::Fault;
-use cycles::geometry::Geometry;
+use cycles::geometry::{CACHE_WORDS, Geometry};
 use cycles::node::Node;
 use cycles::reader::read;
+use std::error::Error;
 use std::fmt;
 
 // Where a play is: the word that is next, the cycles so far, and the choices used.
@@ -26,7 +27,7 @@ pub struct Place {
 impl Place {
     // At the first word behind the cache's six.
     const START: Place = Place {
-        at: 6,
+        at: CACHE_WORDS,
         time: 0,
         used: 0,
     };
@@ -82,11 +83,7 @@ impl From<Fault> for PlayError {
 impl fmt::Display for PlayError {
     fn fmt<W: fmt::Write>(&self, f: &mut fmt::Formatter<W>) -> fmt::Result {
         match *self {
-            PlayError::NoProgram(fault) => write!(
-                f,
-                "word {} counted from 0: {}",
-                fault.place, fault.rule
-            ),
+            PlayError::NoProgram(fault) => write!(f, "{fault}"),
             PlayError::FewCells => f.write_str("fewer words than the cache has ways"),
             PlayError::RanOut => f.write_str(
                 "too few choices: all are used, and an either is come to",
@@ -95,6 +92,8 @@ impl fmt::Display for PlayError {
         }
     }
 }
+
+impl Error for PlayError {}
 
 // What a play is of: words that are a cache and a program, and choices.
 #[derive(Clone, Copy)]
@@ -219,9 +218,9 @@ fn go_rounds<O: Observer>(
 }
 
 // Plays a program by choices, from an empty cache in lent words, and tells an observer each work and touch.
-pub fn play<'a, O: Observer>(
-    words: &'a [u32],
-    choices: &'a [bool],
+pub fn play<O: Observer>(
+    words: &[u32],
+    choices: &[bool],
     cells: &mut [u32],
     observer: &mut O,
 ) -> Result<Played, PlayError>

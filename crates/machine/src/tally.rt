@@ -1,5 +1,5 @@
-ghost use Rattle.std.specs.Prelude.{◌≡◌, min};
-ghost use Rattle.machine.specs.Counts.{hits_in, misses_in, work_in};
+ghost use Rattle.std.specs.Prelude.{◌≡◌};
+ghost use Rattle.machine.specs.Counts.{Counted};
 
 use crate::cache::Outcome;
 use crate::observer::{Access, Observer};
@@ -22,7 +22,7 @@ impl Tally {
 }
 
 impl Observer for Tally {
-    ghost told = { λ t es. (t.hits ≡ min (hits_in es) 18446744073709551615) × (t.misses ≡ min (misses_in es) 18446744073709551615) × (t.work ≡ min (work_in es) 18446744073709551615) };
+    ghost told = { Counted };
 
     fn work(&mut self, _start: u64, cycles: u32) {
         self.work = self.work.saturating_add(u64::from(cycles));

@@ -34,11 +34,21 @@ so, nothing is written to standard output, and the exit status is 1.
 fn replay(rt: &HostRuntime, file: String, total_alone: bool) -> Result<(), Failure> {
     let program = Source::from_file(rt, ROOM, file)?.read()?;
     let text = ChoiceText::from_stdin(rt, MOST_CHOICES)?;
+    let choices = text.choices();
     // First, so that nothing is shown of a play that does not come to its end.
-    let total = total_of(&program, text.choices())?;
+    let total = match total_of(&program, choices) {
+        Ok(total) => total,
+        Err(error) => {
+            return Err(Failure::Play {
+                file: program.name,
+                given: choices.len(),
+                error,
+            });
+        }
+    };
     if !total_alone {
         let out = BufWriter::new(rt.alloc(), rt.stdout())?;
-        write_trace(out, &program, text.choices())?;
+        write_trace(out, &program, choices)?;
     }
     println!(rt; "{total}")?;
     Ok(())
@@ -47,7 +57,7 @@ fn replay(rt: &HostRuntime, file: String, total_alone: bool) -> Result<(), Failu
 fn run(rt: &HostRuntime) -> Result<(), Failure> {
     match asked(rt, "--total")? {
         Request::Help => print!(rt; "{HELP}")?,
-        Request::Run { file, option } => replay(rt, file.ok_or(Failure::NoFile)?, option)?,
+        Request::Run { file, flagged } => replay(rt, file.ok_or(Failure::NoFile)?, flagged)?,
     }
     Ok(())
 }

@@ -4,28 +4,24 @@
 
 use console::outline::write_outline;
 use console::replay::total_of;
+use console::source::LARGEST;
 use console::trace::Total;
-use console::{ChoiceText, Failure, Room, Source, ended};
+use console::{ChoiceText, Failure, Source, ended};
 use std::alloc::{AllocError, Global};
 use std::env;
 use std::process::ExitCode;
-
-const ROOM: Room = Room {
-    words: 1000448,
-    marks: 1507328,
-};
 
 const MOST_CHOICES: usize = 1000;
 
 fn show_file(rt: &HostRuntime, path: String) -> Result<(), Failure> {
     println!(rt; "== {path}")?;
-    let program = Source::from_file(rt, ROOM, path)?.read()?;
+    let program = Source::from_file(rt, LARGEST, path)?.read()?;
     write_outline(rt.stdout(), rt.alloc(), &program)?;
     Ok(())
 }
 
 fn judge_text(rt: &HostRuntime, text: &[u8]) -> Result<usize, Failure> {
-    let source = Source::from_text(rt.alloc(), ROOM, "text", text)?;
+    let source = Source::from_text(rt.alloc(), LARGEST, "text", text)?;
     let program = source.read()?;
     Ok(program.code().len())
 }
@@ -33,9 +29,14 @@ fn judge_text(rt: &HostRuntime, text: &[u8]) -> Result<usize, Failure> {
 // What a file comes to, played by choices.
 fn replay_total(rt: &HostRuntime, path: &str, digits: &str) -> Result<Total, Failure> {
     let file = String::from_str(rt.alloc(), path)?;
-    let program = Source::from_file(rt, ROOM, file)?.read()?;
+    let program = Source::from_file(rt, LARGEST, file)?.read()?;
     let text = ChoiceText::from_text(rt.alloc(), MOST_CHOICES, digits)?;
-    total_of(&program, text.choices())
+    let choices = text.choices();
+    total_of(&program, choices).map_err(|error| Failure::Play {
+        file: program.name,
+        given: choices.len(),
+        error,
+    })
 }
 
 fn judge_replay(rt: &HostRuntime, words: &str) -> Result<(), Failure> {

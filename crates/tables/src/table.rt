@@ -22,7 +22,7 @@ trait Change {
     // What it makes of an entry on a cache.
     ghost makes: { Self → Cache → Entry (Both Val) → Entry (Both Val) };
 
-    fn change(&self, slot: &mut [u32], cache: Geometry)
+    fn apply(&self, slot: &mut [u32], cache: Geometry)
         requires fits { width_of (cache_of cache) ≤ length slot.old }
         requires long { (telling_of (drop (cells_of (cache_of cache)) slot.old)).time + 65535 < 18446744073709551616 }
         requires short { (telling_of (drop (cells_of (cache_of cache) + 7) slot.old)).time + 65535 < 18446744073709551616 }
@@ -38,7 +38,7 @@ struct Work {
 impl Change for Work {
     ghost makes = { λ w c e. spent told w.cycles e };
 
-    fn change(&self, slot: &mut [u32], cache: Geometry) {
+    fn apply(&self, slot: &mut [u32], cache: Geometry) {
         spend(slot, cache.cells(), self.cycles);
     }
 }
@@ -51,7 +51,7 @@ struct Touch {
 impl Change for Touch {
     ghost makes = { λ t c e. touched told c t.address.word e };
 
-    fn change(&self, slot: &mut [u32], cache: Geometry) {
+    fn apply(&self, slot: &mut [u32], cache: Geometry) {
         touch_slot(slot, cache, self.address);
     }
 }
@@ -65,7 +65,7 @@ fn change_all<C: Change>(slots: &mut [u32], cache: Geometry, n: usize, change: &
     let width = width(cache);
     for k in 0..n {
         let at = width * k;
-        change.change(&mut slots[at..at + width], cache);
+        change.apply(&mut slots[at..at + width], cache);
     }
 }
 

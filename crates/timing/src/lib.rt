@@ -17,7 +17,7 @@ use within::time_within;
 fn is_few(words: usize, most: u32, lent: usize) -> bool
     ensures { result ≡ nat_lt lent (4096 + (8 * words + 2048 * (most + 1))) }
 {
-    (lent as u128) < 4096 + (8 * words as u128 + 2048 * (most as u128 + 1))
+    (lent as u128) < 4096 + (8 * words as u128 + 2048 * (u128::from(most) + 1))
 }
 
 // The longest and the shortest time of a program from the empty cache, with choices that take them, or why they are not told.

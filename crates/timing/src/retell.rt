@@ -15,7 +15,7 @@ use tables::table::StateIndex;
 use trails::ChoiceNumber;
 
 // Whose play is told: an entry of the table behind a program, and which of its two tellings.
-#[derive(Clone, Copy)]
+#[derive(Clone, Copy, PartialEq, Eq, Debug)]
 pub struct Teller<'a> {
     pub words: &'a [u32],
     pub cache: Geometry,

@@ -1,6 +1,9 @@
 ghost use Rattle.std.specs.Prelude.{◌≡◌, ℕ, ◌+◌, ◌*◌, ◌/◌, ◌%◌, ◌≤◌, List, [], length};
 ghost use Rattle.trails.specs.Trails.{Sound, Tells, none, telling_of, telling_words};
 
+// How many numbers a word can be.
+const WORD: u64 = 1 << 32;
+
 // The number of a choice in a play, from 0.
 #[derive(Clone, Copy, PartialEq, Eq, Debug)]
 pub struct ChoiceNumber(pub u64);
@@ -63,9 +66,6 @@ impl Telling {
         ]);
     }
 }
-
-// How many numbers a word can be.
-const WORD: u64 = 1 << 32;
 
 // A number by its low and its high word.
 pub fn joined(low: u32, high: u32) -> u64

@@ -3,14 +3,9 @@
 
 use console::arguments::{Request, asked};
 use console::outline::write_outline;
-use console::{Failure, Room, Source, ended};
+use console::source::LARGEST;
+use console::{Failure, Source, ended};
 use std::process::ExitCode;
-
-// With a piece of the text of 4096 bytes, 4 MiB; what the marks take is given back before anything is written.
-const ROOM: Room = Room {
-    words: 1000448,
-    marks: 1507328,
-};
 
 const HELP: &str = "usage: wcet [FILE]
 
@@ -40,15 +35,15 @@ written to standard output, and the exit status is 1.
 
 fn show(rt: &HostRuntime, file: Option<String>) -> Result<(), Failure> {
     let source = match file {
-        None => Source::from_stdin(rt, ROOM)?,
-        Some(path) => Source::from_file(rt, ROOM, path)?,
+        None => Source::from_stdin(rt, LARGEST)?,
+        Some(path) => Source::from_file(rt, LARGEST, path)?,
     };
     let program = source.read()?;
     write_outline(rt.stdout(), rt.alloc(), &program)?;
     Ok(())
 }
 
-// The option - says that standard input is read, as it is where no file is named.
+// The flag - says that standard input is read, as it is where no file is named.
 fn run(rt: &HostRuntime) -> Result<(), Failure> {
     match asked(rt, "-")? {
         Request::Help => print!(rt; "{HELP}")?,

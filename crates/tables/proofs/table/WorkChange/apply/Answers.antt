@@ -3,7 +3,7 @@ use Rattle.cycles.specs.Reading.{cache}
 use Rattle.trails.specs.Trails.{telling_of}
 use Rattle.tables.specs.Showing.{Retold, later}
 use Rattle.tables.proofs.Matching.{shown_spent}
-use Rattle.tables.proofs.table.WorkChange.change.Goals as goal
+use Rattle.tables.proofs.table.WorkChange.apply.Goals as goal
 
 pub returns : goal.returns
 returns c a s e m =
