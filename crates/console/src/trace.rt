@@ -11,19 +11,6 @@ use std::{fmt, io};
 pub(crate) const HEADER: &str =
     "       cycle  cycles  what     address        line  set      evicts";
 
-// The line that a touch evicts, or a dash.
-#[derive(Clone, Copy)]
-struct Evicted(Option<u32>);
-
-impl fmt::Display for Evicted {
-    fn fmt<W: fmt::Write>(&self, f: &mut fmt::Formatter<W>) -> fmt::Result {
-        match self.0 {
-            Some(line) => line.fmt(f),
-            None => f.pad("-"),
-        }
-    }
-}
-
 // A row of the trace.
 #[derive(Clone, Copy)]
 struct Row(Event);
@@ -38,14 +25,18 @@ impl fmt::Display for Row {
             Event::Touch(access) => {
                 let touched = access.touched;
                 let (what, evicted) = match touched.outcome {
-                    Outcome::Hit => ("hit ", Evicted(None)),
-                    Outcome::Miss { evicted } => ("miss", Evicted(evicted)),
+                    Outcome::Hit => ("hit ", None),
+                    Outcome::Miss { evicted } => ("miss", evicted),
                 };
                 write!(
                     f,
-                    "{:>12}  {:>6}  {what}  {:>10}  {:>10}  {:>3}  {evicted:>10}",
+                    "{:>12}  {:>6}  {what}  {:>10}  {:>10}  {:>3}",
                     access.start, touched.cycles, access.address, touched.line, touched.set
-                )
+                )?;
+                match evicted {
+                    Some(line) => write!(f, "  {line:>10}"),
+                    None => f.write_str("           -"),
+                }
             }
         }
     }
