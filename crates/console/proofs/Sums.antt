@@ -1,5 +1,5 @@
 -- The last line of a play.
-use Rattle.std.proofs.Common.{◌≡◌, ℕ, Bool, List, [], length, Ok, Err, Result, subst}
+use Rattle.std.proofs.Common.{◌≡◌, ℕ, Bool, List, [], Ok, Err, Result, subst}
 use Rattle.machine.specs.declared.player.Played.{Played}
 use Rattle.machine.specs.declared.player.PlayError.{PlayError}
 use Rattle.machine.specs.declared.tally.Tally.{Tally}
