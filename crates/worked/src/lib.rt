@@ -51,6 +51,90 @@ mod tests {
         assert_eq!(rt; cut, Err(TabulateError::NoProgram(fault)));
     }
 
+    // 0 1 0 2 1 in one set of two ways: a miss, a miss, a hit and two misses, and the newest line stands first.
+    #[test]
+    fn five_touches(rt: HostRuntime) {
+        let words = [
+            1, 2, 1, 1, 10, 1, 2, 1, 0, 0, 2, 1, 1, 0, 2, 1, 0, 0, 2, 1, 2, 0, 1, 1, 0,
+        ];
+        let mut slots = [7; 16];
+        let table = tabulate(&words, from_choice(0), 1, &mut slots, &mut []);
+        assert_eq!(rt; table.map(|table| table.entries), Ok(1));
+        assert_eq!(rt; &slots[..9], [2, 3, 41, 0, 0, 0, 0, 0, 0].as_slice());
+        assert_eq!(rt; &slots[9..], [41, 0, 0, 0, 0, 0, 0].as_slice());
+    }
+
+    // 0, 1 and 2 in a row, in two sets of one way with lines of two words.
+    #[test]
+    fn a_row(rt: HostRuntime) {
+        let words = [2, 1, 2, 1, 10, 1, 4, 3, 1, 0, 1, 1];
+        let mut slots = [7; 16];
+        let table = tabulate(&words, from_choice(0), 1, &mut slots, &mut []);
+        assert_eq!(rt; table.map(|table| table.entries), Ok(1));
+        assert_eq!(rt; &slots[..2], [1, 2].as_slice());
+        assert_eq!(rt; telling_at(&slots, 2).time, 21);
+        assert_eq!(rt; telling_at(&slots, 9).time, 21);
+    }
+
+    // 1 2 3 4 1 2 5 1 2 3 4 5 under FIFO, in one set of three ways.
+    const WALK: [u32; 53] = [
+        1, 3, 1, 0, 1, 0, 2, 1, 1, 0, 2, 1, 2, 0, 2, 1, 3, 0, 2, 1, 4, 0, 2, 1, 1, 0, 2, 1, 2, 0,
+        2, 1, 5, 0, 2, 1, 1, 0, 2, 1, 2, 0, 2, 1, 3, 0, 2, 1, 4, 0, 1, 5, 0,
+    ];
+
+    #[test]
+    fn fifo_with_a_way_more_is_slower(rt: HostRuntime) {
+        let mut slots = [7; 17];
+        let three = tabulate(&WALK, from_choice(0), 1, &mut slots, &mut []);
+        assert_eq!(rt; three.map(|table| table.entries), Ok(1));
+        assert_eq!(rt; &slots[..3], [5, 4, 6].as_slice());
+        assert_eq!(rt; telling_at(&slots, 3).time, 9);
+        assert_eq!(rt; telling_at(&slots, 10).time, 9);
+        let mut wider = WALK;
+        wider[1] = 4;
+        let mut slots = [7; 18];
+        let four = tabulate(&wider, from_choice(0), 1, &mut slots, &mut []);
+        assert_eq!(rt; four.map(|table| table.entries), Ok(1));
+        assert_eq!(rt; &slots[..4], [6, 5, 4, 3].as_slice());
+        assert_eq!(rt; telling_at(&slots, 4).time, 10);
+        assert_eq!(rt; telling_at(&slots, 11).time, 10);
+    }
+
+    // 4,096 rounds of 4,096 rounds of a touch in 64 sets: 8,064 misses, and the last 64 lines are left.
+    #[test]
+    fn many_rounds(rt: HostRuntime) {
+        let words = [64, 1, 64, 1, 10, 1, 4, 4096, 4, 4096, 1, 0, 2, 1, 1];
+        let mut slots = [7; 78];
+        let table = tabulate(&words, from_choice(0), 1, &mut slots, &mut []);
+        assert_eq!(rt; table.map(|table| table.entries), Ok(1));
+        assert_eq!(rt; slots[0], 65);
+        assert_eq!(rt; slots[63], 128);
+        assert_eq!(rt; telling_at(&slots, 64).time, 16_777_216 + 9 * 8_064);
+        assert_eq!(rt; telling_at(&slots, 71).time, 16_777_216 + 9 * 8_064);
+    }
+
+    // Eight loops of two rounds around either 0 or 1: four states, of one line or of both.
+    #[test]
+    fn eight_loops(rt: HostRuntime) {
+        let words = [
+            1, 2, 1, 1, 10, 1, 4, 2, 4, 2, 4, 2, 4, 2, 4, 2, 4, 2, 4, 2, 4, 2, 3, 1, 0, 0, 1, 1, 0,
+        ];
+        let mut slots = [7; 128];
+        let mut store = [7; 256];
+        let table = tabulate(&words, from_choice(0), 8, &mut slots, &mut store);
+        assert_eq!(rt; table.map(|table| table.entries), Ok(4));
+        assert_eq!(rt; &slots[..2], [1, 0].as_slice());
+        assert_eq!(rt; &slots[16..18], [1, 2].as_slice());
+        assert_eq!(rt; &slots[32..34], [2, 1].as_slice());
+        assert_eq!(rt; &slots[48..50], [2, 0].as_slice());
+        // one line: one miss and 255 hits; both lines: two misses, in every play
+        assert_eq!(rt; telling_at(&slots, 2).time, 265);
+        assert_eq!(rt; telling_at(&slots, 9).time, 265);
+        assert_eq!(rt; telling_at(&slots, 18).time, 274);
+        assert_eq!(rt; telling_at(&slots, 25).time, 274);
+        assert_eq!(rt; telling_at(&slots, 41).count, 256);
+    }
+
     // A hundred rounds of either 0 or 1 in one line: slots of fifteen words.
     const HUNDRED: [u32; 15] = [1, 1, 1, 1, 10, 1, 4, 100, 3, 1, 0, 0, 1, 1, 0];
 
