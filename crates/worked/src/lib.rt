@@ -51,49 +51,52 @@ mod tests {
         assert_eq!(rt; cut, Err(TabulateError::NoProgram(fault)));
     }
 
-    // 0 1 0 2 1 in one set of two ways: a miss, a miss, a hit and two misses, and the newest line stands first.
+    // 0 1 0 2 1 in one set of two ways: a miss, a miss, a hit and two misses.
+    const FIVE: [u32; 25] = [
+        1, 2, 1, 1, 10, 1, 2, 1, 0, 0, 2, 1, 1, 0, 2, 1, 0, 0, 2, 1, 2, 0, 1, 1, 0,
+    ];
+
+    // The newest line stands first.
     #[test]
     fn five_touches(rt: HostRuntime) {
-        let words = [
-            1, 2, 1, 1, 10, 1, 2, 1, 0, 0, 2, 1, 1, 0, 2, 1, 0, 0, 2, 1, 2, 0, 1, 1, 0,
-        ];
         let mut slots = [7; 16];
-        let table = tabulate(&words, from_choice(0), 1, &mut slots, &mut []);
+        let table = tabulate(&FIVE, from_choice(0), 1, &mut slots, &mut []);
         assert_eq!(rt; table.map(|table| table.entries), Ok(1));
         assert_eq!(rt; &slots[..9], [2, 3, 41, 0, 0, 0, 0, 0, 0].as_slice());
         assert_eq!(rt; &slots[9..], [41, 0, 0, 0, 0, 0, 0].as_slice());
     }
 
     // 0, 1 and 2 in a row, in two sets of one way with lines of two words.
+    const ROW: [u32; 12] = [2, 1, 2, 1, 10, 1, 4, 3, 1, 0, 1, 1];
+
     #[test]
     fn a_row(rt: HostRuntime) {
-        let words = [2, 1, 2, 1, 10, 1, 4, 3, 1, 0, 1, 1];
         let mut slots = [7; 16];
-        let table = tabulate(&words, from_choice(0), 1, &mut slots, &mut []);
+        let table = tabulate(&ROW, from_choice(0), 1, &mut slots, &mut []);
         assert_eq!(rt; table.map(|table| table.entries), Ok(1));
         assert_eq!(rt; &slots[..2], [1, 2].as_slice());
         assert_eq!(rt; telling_at(&slots, 2).time, 21);
         assert_eq!(rt; telling_at(&slots, 9).time, 21);
     }
 
-    // 1 2 3 4 1 2 5 1 2 3 4 5 under FIFO, in one set of three ways.
-    const WALK: [u32; 53] = [
-        1, 3, 1, 0, 1, 0, 2, 1, 1, 0, 2, 1, 2, 0, 2, 1, 3, 0, 2, 1, 4, 0, 2, 1, 1, 0, 2, 1, 2, 0,
-        2, 1, 5, 0, 2, 1, 1, 0, 2, 1, 2, 0, 2, 1, 3, 0, 2, 1, 4, 0, 1, 5, 0,
-    ];
+    // 1 2 3 4 1 2 5 1 2 3 4 5 under FIFO, in one set of so many ways.
+    fn walk(ways: u32) -> [u32; 53] {
+        [
+            1, ways, 1, 0, 1, 0, 2, 1, 1, 0, 2, 1, 2, 0, 2, 1, 3, 0, 2, 1, 4, 0, 2, 1, 1, 0, 2, 1,
+            2, 0, 2, 1, 5, 0, 2, 1, 1, 0, 2, 1, 2, 0, 2, 1, 3, 0, 2, 1, 4, 0, 1, 5, 0,
+        ]
+    }
 
     #[test]
     fn fifo_with_a_way_more_is_slower(rt: HostRuntime) {
         let mut slots = [7; 17];
-        let three = tabulate(&WALK, from_choice(0), 1, &mut slots, &mut []);
+        let three = tabulate(&walk(3), from_choice(0), 1, &mut slots, &mut []);
         assert_eq!(rt; three.map(|table| table.entries), Ok(1));
         assert_eq!(rt; &slots[..3], [5, 4, 6].as_slice());
         assert_eq!(rt; telling_at(&slots, 3).time, 9);
         assert_eq!(rt; telling_at(&slots, 10).time, 9);
-        let mut wider = WALK;
-        wider[1] = 4;
         let mut slots = [7; 18];
-        let four = tabulate(&wider, from_choice(0), 1, &mut slots, &mut []);
+        let four = tabulate(&walk(4), from_choice(0), 1, &mut slots, &mut []);
         assert_eq!(rt; four.map(|table| table.entries), Ok(1));
         assert_eq!(rt; &slots[..4], [6, 5, 4, 3].as_slice());
         assert_eq!(rt; telling_at(&slots, 4).time, 10);
@@ -101,11 +104,12 @@ mod tests {
     }
 
     // 4,096 rounds of 4,096 rounds of a touch in 64 sets: 8,064 misses, and the last 64 lines are left.
+    const MANY: [u32; 15] = [64, 1, 64, 1, 10, 1, 4, 4096, 4, 4096, 1, 0, 2, 1, 1];
+
     #[test]
     fn many_rounds(rt: HostRuntime) {
-        let words = [64, 1, 64, 1, 10, 1, 4, 4096, 4, 4096, 1, 0, 2, 1, 1];
         let mut slots = [7; 78];
-        let table = tabulate(&words, from_choice(0), 1, &mut slots, &mut []);
+        let table = tabulate(&MANY, from_choice(0), 1, &mut slots, &mut []);
         assert_eq!(rt; table.map(|table| table.entries), Ok(1));
         assert_eq!(rt; slots[0], 65);
         assert_eq!(rt; slots[63], 128);
@@ -114,14 +118,15 @@ mod tests {
     }
 
     // Eight loops of two rounds around either 0 or 1: four states, of one line or of both.
+    const EIGHT: [u32; 29] = [
+        1, 2, 1, 1, 10, 1, 4, 2, 4, 2, 4, 2, 4, 2, 4, 2, 4, 2, 4, 2, 4, 2, 3, 1, 0, 0, 1, 1, 0,
+    ];
+
     #[test]
     fn eight_loops(rt: HostRuntime) {
-        let words = [
-            1, 2, 1, 1, 10, 1, 4, 2, 4, 2, 4, 2, 4, 2, 4, 2, 4, 2, 4, 2, 4, 2, 3, 1, 0, 0, 1, 1, 0,
-        ];
         let mut slots = [7; 128];
         let mut store = [7; 256];
-        let table = tabulate(&words, from_choice(0), 8, &mut slots, &mut store);
+        let table = tabulate(&EIGHT, from_choice(0), 8, &mut slots, &mut store);
         assert_eq!(rt; table.map(|table| table.entries), Ok(4));
         assert_eq!(rt; &slots[..2], [1, 0].as_slice());
         assert_eq!(rt; &slots[16..18], [1, 2].as_slice());
@@ -178,6 +183,48 @@ mod tests {
         let both = times(&EITHER, 2, &mut choices, &mut work);
         assert_eq!(rt; both, Timed::Times(20, 11, 1, 1));
         assert_eq!(rt; &choices[..], [0, 1, 9].as_slice());
+    }
+
+    // Enough for any of the worked programs and ten states.
+    const WORK: usize = 4096 + 8 * 53 + 2048 * 11;
+
+    #[test]
+    fn times_without_choices(rt: HostRuntime) {
+        let mut work = [3; WORK];
+        let five = times(&FIVE, 1, &mut [], &mut work);
+        assert_eq!(rt; five, Timed::Times(41, 41, 0, 0));
+        let row = times(&ROW, 1, &mut [], &mut work);
+        assert_eq!(rt; row, Timed::Times(21, 21, 0, 0));
+        let three = times(&walk(3), 1, &mut [], &mut work);
+        assert_eq!(rt; three, Timed::Times(9, 9, 0, 0));
+        let four = times(&walk(4), 1, &mut [], &mut work);
+        assert_eq!(rt; four, Timed::Times(10, 10, 0, 0));
+        let many = times(&MANY, 1, &mut [], &mut work);
+        assert_eq!(rt; many, Timed::Times(16849792, 16849792, 0, 0));
+    }
+
+    // The longest misses with each choice, and the shortest makes one choice for good.
+    #[test]
+    fn times_of_a_hundred_choices(rt: HostRuntime) {
+        let mut work = [3; WORK];
+        let mut choices = [9; 200];
+        let hundred = times(&HUNDRED, 4, &mut choices, &mut work);
+        assert_eq!(rt; hundred, Timed::Times(1000, 109, 100, 100));
+        let mut plays = choices.chunks(100);
+        assert_eq!(rt; plays.next().map(runs), Some(100));
+        assert_eq!(rt; plays.next().map(runs), Some(1));
+    }
+
+    // The longest misses for both lines, and the shortest for one.
+    #[test]
+    fn times_of_eight_loops(rt: HostRuntime) {
+        let mut work = [3; WORK];
+        let mut choices = [9; 512];
+        let eight = times(&EIGHT, 8, &mut choices, &mut work);
+        assert_eq!(rt; eight, Timed::Times(274, 265, 256, 256));
+        let mut plays = choices.chunks(256);
+        assert_eq!(rt; plays.next().map(runs) > Some(1), true);
+        assert_eq!(rt; plays.next().map(runs), Some(1));
     }
 
     #[test]
