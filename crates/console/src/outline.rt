@@ -1,9 +1,10 @@
-ghost use Rattle.std.specs.Prelude.{◌≤◌, length};
+ghost use Rattle.std.specs.Prelude.{◌≡◌, ◌+◌, ◌≤◌, length, vec_len, OnOk};
 
 use crate::failure::Failure;
 use crate::source::Program;
 use cycles::node::{Node, first_node};
-use std::alloc::Global;
+use std::alloc::{AllocError, Global};
+use std::io;
 use std::io::{BufWriter, Write};
 
 // What is to be written next: the program that the words go on with, or what stands between and behind its parts.
@@ -26,6 +27,56 @@ fn plan(node: Node<'_>) -> &'static [Task]
     }
 }
 
+// Puts tasks on the list, one by one: they are so few that to copy them at once takes longer.
+fn put(tasks: &mut Vec<Task>, more: &[Task]) -> Result<(), AllocError>
+    ensures { OnOk result (vec_len tasks.new ≡ vec_len tasks.old + length more.now) }
+{
+    for task in more {
+        tasks.push(*task)?;
+    }
+    Ok(())
+}
+
+// Blanks are written in pieces of these.
+const BLANKS: [u8; 64] = [b' '; 64];
+
+fn write_blanks<W: Write>(out: &mut W, columns: usize) -> io::Result<()> {
+    for _ in 0..columns / BLANKS.len() {
+        out.write_all(&BLANKS)?;
+    }
+    let rest = columns % BLANKS.len();
+    if rest > 0 {
+        out.write_all(&BLANKS[..rest])?;
+    }
+    Ok(())
+}
+
+// A line of a fixed text, its newline with it: most lines of a long program are such, and a format would take twice as long.
+fn write_line<W: Write>(out: &mut W, indent: usize, line: &str) -> io::Result<()> {
+    // The lines of a long program stand mostly at the margin.
+    if indent > 0 {
+        write_blanks(out, indent)?;
+    }
+    out.write_all(line.as_bytes())
+}
+
+// One node, without the programs that it holds; of two in turn nothing is to be seen.
+fn write_node<W: Write>(out: &mut W, indent: usize, node: Node<'_>) -> io::Result<()> {
+    match node {
+        Node::Seq => Ok(()),
+        Node::Skip => write_line(out, indent, "skip\n"),
+        Node::Either => write_line(out, indent, "either {\n"),
+        Node::Loop(_) => {
+            write_blanks(out, indent)?;
+            writeln!(out, "{node} {{")
+        }
+        Node::Work(_) | Node::Touch { .. } => {
+            write_blanks(out, indent)?;
+            writeln!(out, "{node}")
+        }
+    }
+}
+
 // The program that the words begin with, a node to a line, each two columns deeper than what holds it; of two in turn nothing is to be seen.
 // What is to come stands in a list, since any words may be given, however deep.
 pub fn write_program<W: Write>(out: &mut W, heap: Global, words: &[u32]) -> Result<(), Failure> {
@@ -33,27 +84,22 @@ pub fn write_program<W: Write>(out: &mut W, heap: Global, words: &[u32]) -> Resu
     let mut rest = words;
     let mut indent: usize = 0;
     while let Some(task) = tasks.pop() {
-        let outer = indent.saturating_sub(2);
         match task {
             Task::Node => {
                 let Ok(node) = first_node(rest) else {
                     return Ok(());
                 };
                 rest = &rest[node.size()..];
-                tasks.extend_from_slice(plan(node))?;
-                match node {
-                    Node::Seq => {}
-                    Node::Either | Node::Loop(_) => {
-                        writeln!(out, "{:indent$}{node} {{", "")?;
-                        indent = indent.saturating_add(2);
-                    }
-                    _ => writeln!(out, "{:indent$}{node}", "")?,
+                write_node(out, indent, node)?;
+                put(&mut tasks, plan(node))?;
+                if let Node::Either | Node::Loop(_) = node {
+                    indent = indent.saturating_add(2);
                 }
             }
-            Task::Or => writeln!(out, "{:outer$}}} or {{", "")?,
+            Task::Or => write_line(out, indent.saturating_sub(2), "} or {\n")?,
             Task::Close => {
-                writeln!(out, "{:outer$}}}", "")?;
-                indent = outer;
+                indent = indent.saturating_sub(2);
+                write_line(out, indent, "}\n")?;
             }
         }
     }

@@ -53,30 +53,32 @@ impl Source {
     ghost use Rattle.listing.specs.Text.{shown};
 
     pub fn from_stdin(rt: &HostRuntime, room: Room) -> Result<Source, Failure> {
+        let listing = Listing::new(rt.alloc(), room)?;
         let name = String::from_str(rt.alloc(), STANDARD_INPUT)?;
-        Source::from_input(rt.alloc(), room, name, rt.stdin())
+        Source::from_input(listing, name, rt.stdin())
     }
 
+    // Nothing is opened where there is no memory for its words.
     pub fn from_file(rt: &HostRuntime, room: Room, path: String) -> Result<Source, Failure> {
+        let listing = Listing::new(rt.alloc(), room)?;
         match fs::open(rt, path.as_str()) {
-            Ok(file) => Source::from_input(rt.alloc(), room, path, file),
+            Ok(file) => Source::from_input(listing, path, file),
             Err(error) => Err(Failure::File(path, error)),
         }
     }
 
     // A text that is there already, under a name for messages.
     pub fn from_text(heap: Global, room: Room, name: &str, text: &[u8]) -> Result<Source, Failure> {
+        let listing = Listing::new(heap, room)?;
         let name = String::from_str(heap, name)?;
-        Source::from_input(heap, room, name, text)
+        Source::from_input(listing, name, text)
     }
 
     fn from_input<R: Read + Drop>(
-        heap: Global,
-        room: Room,
+        mut listing: Listing,
         name: String,
         input: R,
     ) -> Result<Source, Failure> {
-        let mut listing = Listing::new(heap, room)?;
         match read_pieces(input, |piece| listing.feed(piece)) {
             Ok(()) => {
                 listing.finish();

@@ -8,8 +8,7 @@ use std::io::Write;
 use std::{fmt, io};
 
 // The heads of the columns, as wide as they are in each row.
-pub(crate) const HEADER: &str =
-    "       cycle  cycles  what     address        line  set      evicts";
+pub const HEADER: &str = "       cycle  cycles  what     address        line  set      evicts";
 
 // A row of the trace.
 #[derive(Clone, Copy)]

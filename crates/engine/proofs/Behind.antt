@@ -48,7 +48,9 @@ module _ {c : Cache} {a : Both ℕ} {f : Point} {st st' : Store} (b : Bool) (xs 
       }
 
   pub came_noted : {ws : List ℕ} {loops : ℕ} (rs : List ℕ) (slots : ℕ) (zs : List ℕ) (st'' : Store) (r : Option Point) (k : Task c a ws loops f xs st) → Grown st st' → Goes c a rs ws loops f slots ys zs st' st'' r → Came c a rs k.p (map (chose told b) k.T) f slots zs st st'' r
-  came_noted rs slots zs st'' None k grown m = m (record { p = k.p; rest = k.rest; T = map (chose told b) k.T; fit = k.fit; shows = noted k.T k.shows })
+  came_noted rs slots zs st'' None k grown m =
+      let x = m (record { p = k.p; rest = k.rest; T = map (chose told b) k.T; fit = k.fit; shows = noted k.T k.shows }) in
+      (x.0, grown_on st st' st'' grown x.1)
   came_noted rs slots zs st'' (Some t) k grown m =
       let x = m (record { p = k.p; rest = k.rest; T = map (chose told b) k.T; fit = k.fit; shows = noted k.T k.shows }) in
       record { ends = x.ends; grown = grown_on st st' st'' grown x.grown; count = x.count; enough = x.enough; shows = x.shows }

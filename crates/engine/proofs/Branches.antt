@@ -6,8 +6,8 @@ use Rattle.cycles.specs.Code.{P, either, Cache}
 use Rattle.cycles.specs.Reading.{Begins}
 use Rattle.cycles.specs.Rows.{row, amount}
 use Rattle.trails.specs.declared.store.Store.{Store}
-use Rattle.trails.specs.Stores.{nodes}
-use Rattle.trails.proofs.Fronts.{grown_on}
+use Rattle.trails.specs.Stores.{Grown, nodes}
+use Rattle.trails.proofs.Fronts.{grown_none, grown_on}
 use Rattle.tables.specs.Best.{Both, Table, Room, told}
 use Rattle.tables.specs.Each.{no_more}
 use Rattle.tables.specs.Showing.{Shows, width}
@@ -83,11 +83,11 @@ module _ {c : Cache} {a : Both ℕ} {ws : List ℕ} {loops : ℕ} {f : Point} {x
     need_is : need told c k.p rs k.T ≡ max (length S + length S) (max (length S + need told c X rs (map (chose told true) S)) (length F + need told c Y rs (map (chose told false) S)))
     need_is = ap (λ z. need told c z rs k.T) either_is
 
-    pub crowded_copies : (x₁ : List ℕ) (n : ℕ) → Shows c a (nodes st) n x₁ S → slots < n + n → slots < need told c k.p rs k.T
-    crowded_copies x₁ n m h = omega (arith, h, need_is, shows_count c a (nodes st) n x₁ S m)
+    pub crowded_copies : (x₁ : List ℕ) (n : ℕ) → Shows c a (nodes st) n x₁ S → slots < n + n → (slots < need told c k.p rs k.T) × Grown st st
+    crowded_copies x₁ n m h = (omega (arith, h, need_is, shows_count c a (nodes st) n x₁ S m), grown_none st)
 
-    pub crowded_first : (x₂ : List ℕ) (n : ℕ) → Shows c a (nodes st) n x₂ S → n ≤ slots → slots - n < need told c X rs (map (chose told true) S) → slots < need told c k.p rs k.T
-    crowded_first x₂ n m h l = omega (arith, l, h, need_is, shows_count c a (nodes st) n x₂ S m)
+    pub crowded_first : (x₂ : List ℕ) (n : ℕ) (st₁ : Store) → Shows c a (nodes st) n x₂ S → n ≤ slots → (slots - n < need told c X rs (map (chose told true) S)) × Grown st st₁ → (slots < need told c k.p rs k.T) × Grown st st₁
+    crowded_first x₂ n st₁ m h l = (omega (arith, l.0, h, need_is, shows_count c a (nodes st) n x₂ S m), l.1)
 
     -- the first branch is done on the copies in p₃, the part behind the n slots of x₄; m slots are left of it, and stand before the original in x₅
     pub forked : (x₂ p₃ x₄ x₅ : List ℕ) (st₁ : Store) (n m : ℕ) (t : Point) → Shows c a (nodes st) n x₂ S → n + n ≤ slots → width c * slots ≤ length x₂ → length x₄ ≡ length x₂ → length x₅ ≡ length x₂ → take (width c * n) x₄ ≡ take (width c * n) x₂ → Ran c a rs X (map (chose told true) S) (point (f.at + 1) n) t (slots - n) p₃ st st₁ → ((U : Table) → Shows c a (nodes st₁) t.count p₃ U → Shows c a (nodes st₁) m (drop (width c * n) x₄) (dedup told.best U)) → m ≤ t.count → x₅ ≡ take (width c * m) (drop (width c * n) x₄) ++ (take (width c * n) x₄ ++ drop (width c * (n + m)) x₄) → Forked c a rs ws loops slots k.p k.T f (record { second = point t.at n; first = m }) x₅ st st₁
@@ -151,8 +151,8 @@ module _ {c : Cache} {a : Both ℕ} {rs ws : List ℕ} {loops slots : ℕ} {p : 
   need_two : need told c p rs T ≡ max (length S₂ + length S₂) (max (length S₂ + need told c o.x rs (map (chose told true) S₂)) (length F₂ + need told c o.y rs (map (chose told false) S₂)))
   need_two = ap (λ z. need told c z rs T) o.is
 
-  pub crowded_second : slots - t.first < need told c o.y rs (map (chose told false) S₂) → slots < need told c p rs T
-  crowded_second h = omega (arith, h, o.fits, need_two, shows_count c a (nodes st') t.first ys F₂ o.front)
+  pub crowded_second : (st'' : Store) → (slots - t.first < need told c o.y rs (map (chose told false) S₂)) × Grown st' st'' → (slots < need told c p rs T) × Grown st st''
+  crowded_second st'' h = (omega (arith, h.0, o.fits, need_two, shows_count c a (nodes st') t.first ys F₂ o.front), grown_on st st' st'' o.grown h.1)
 
   pub came_both : (x₆ x₇ : List ℕ) (st'' : Store) (e : Point) (all : ℕ) → width c * slots ≤ length ys → length x₆ ≡ length ys → take (width c * t.first) x₆ ≡ take (width c * t.first) ys → Ran c a rs o.y (map (chose told false) S₂) t.second e (slots - t.first) (drop (width c * t.first) x₆) st' st'' → ((b : Both ℕ) (u : List ℕ) (V U : Table) → Shows c b u t.first x₆ V → Shows c b u e.count (drop (width c * t.first) x₆) U → Shows c b u all x₇ (gather told.best V U)) → all ≤ t.first + e.count → Ran c a rs p T f (point e.at all) slots x₇ st st''
   came_both x₆ x₇ st'' e all long l kept r joins few =

@@ -52,7 +52,7 @@ spendable {c} n xs m r j less =
 
 module _ {c : Cache} {a : Both ℕ} {rs ws : List ℕ} {loops slots : ℕ} {p : P} {T : Table} {f g : Point} {st : Store} {ys : List ℕ} {st' : Store} (o : Onward c a rs ws loops slots p T f g st ys st') where
   pub onward_end : (zs : List ℕ) (st'' : Store) (r : Option Point) → Came c a rs o.task.p o.task.T g slots zs st' st'' r → Came c a rs p T f slots zs st st'' r
-  onward_end zs st'' None m = omega (arith, m, o.wide)
+  onward_end zs st'' None m = (omega (arith, m.0, o.wide), grown_on st st' st'' o.grown m.1)
   onward_end zs st'' (Some t) m =
       record {
         ends = omega (arith, m.ends, o.ends);
@@ -111,12 +111,12 @@ module _ {c : Cache} {a : Both ℕ} {rs ws : List ℕ} {loops slots : ℕ} {p : 
         let m = came (record { p = x; rest = row y ++ k.rest; T = k.T; fit = u; shows = k.shows }) in
         (m.count, omega (arith, m.ends), omega (arith, m.ends, v.within))
 
-    pub seq_crowded : Goes c a rs ws loops (point (g.at + 1) g.count) slots ys zs st' st'' None → slots < need told c p rs T
+    pub seq_crowded : Goes c a rs ws loops (point (g.at + 1) g.count) slots ys zs st' st'' None → (slots < need told c p rs T) × Grown st st''
     seq_crowded came =
         let k = o.task in
         let (x, y, e, u, v) = is_seq k.fit n in
         let m = came (record { p = x; rest = row y ++ k.rest; T = k.T; fit = u; shows = k.shows }) in
-        omega (arith, o.wide, m, ap (λ z. need told c z rs k.T) e)
+        (omega (arith, o.wide, m.0, ap (λ z. need told c z rs k.T) e), grown_on st st' st'' o.grown m.1)
 
 -- a program without an either, of which it is known what it makes of the table
 pub came_plain : {c : Cache} {a : Both ℕ} {rs ws : List ℕ} {loops slots : ℕ} {g : Point} {ys : List ℕ} {st : Store} (q : P) (t : Point) (at : ℕ) (zs : List ℕ) (k : Task c a ws loops g ys st) → t ≡ point at g.count → k.p ≡ q → need told c q rs k.T ≡ 0 → at ≡ g.at + length (row q) → g.count ≤ slots → Shows c a (nodes st) g.count zs (run told c q rs k.T) → Ran c a rs k.p k.T g t slots zs st st

@@ -46,7 +46,7 @@ front_long w m xs new e h l =
     let k : length new ≡ w = l ∙ rw z (length-take-le w xs h) in
     (k, rw z (length-append new (drop w xs) ∙ omega (arith, length-drop w xs)))
 
-shows_start : (c : Cache) (a : Both ℕ) (s xs new : List ℕ) (m : ℕ) → length new ≡ width c → Shown c a s new (start c) → Shows c a s 1 (put_mid 0 m xs new) (start c ∷ [])
+pub shows_start : (c : Cache) (a : Both ℕ) (s xs new : List ℕ) (m : ℕ) → length new ≡ width c → Shown c a s new (start c) → Shows c a s 1 (put_mid 0 m xs new) (start c ∷ [])
 shows_start c a s xs new m l h = also (subst (λ z. Shown c a s z (start c)) (sym (take_at new _ (width c) l)) h) no_more
 
 -- crowded, by what is asked and so by the states that can stand at once
@@ -85,4 +85,4 @@ module _ {ws : List ℕ} {c : Cache} {p : P} (r : Reads ws c p) (a : Both ℕ) (
     pub whole_crowded : (len : ℕ) (zs us : List ℕ) → Goes c a rs ws loops (point 6 1) most (put_mid 0 (w - 0) xs new) ys st st' None → TabulatePost ws a most len zs us (Err Crowded)
     whole_crowded len zs us m =
         let g : Goes c a [] ws 0 (point 6 1) most (put_mid 0 (w - 0) xs new) ys st st' None = rw (none, out) at m in
-        told_crowded r (omega (arith, g whole))
+        told_crowded r (omega (arith, (g whole).0))

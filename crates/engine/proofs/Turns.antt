@@ -80,8 +80,8 @@ module _ {c : Cache} {a : Both ℕ} {rs : List ℕ} {slots : ℕ} {b : P} {n i :
         room = λ r. room_run c b (i ∷ rs) (loops + 1) ((n - (i + 1)) * amount b) u.U quick o (room_round h r);
       }
 
-  pub turned_crowded : i < n → slots < need told c b (i ∷ rs) u.U → slots < need told c p rs T
-  turned_crowded h m = omega (arith, m, u.wide, one_need h)
+  pub turned_crowded : (st'' : Store) → i < n → (slots < need told c b (i ∷ rs) u.U) × Grown st' st'' → (slots < need told c p rs T) × Grown st st''
+  turned_crowded st'' h m = (omega (arith, m.0, u.wide, one_need h), grown_on st st' st'' u.grown m.1)
 
   pub turned_all : (t : Point) (at : ℕ) → t ≡ point at g.count → n ≤ i → p ≡ times n b → at ≡ f.at + 2 + length (row b) → g.count ≤ slots → Ran c a rs p T f t slots ys st st'
   turned_all t at is h e l s =

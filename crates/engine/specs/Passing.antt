@@ -42,10 +42,10 @@ pub record Ran (c : Cache) (a : Both ℕ) (rs : List ℕ) (p : P) (T : Table) (f
   pub enough : need told c p rs T ≤ slots
   pub shows : Shows c a (nodes st') t.count ys (run told c p rs T)
 
--- what comes of a program, of a table, and of so many slots: it is done exactly if they suffice
+-- what comes of a program, of a table, and of so many slots: it is done exactly if they suffice, and the store has only grown either way
 abbrev pub Came : Cache → Both ℕ → List ℕ → P → Table → Point → ℕ → List ℕ → Store → Store → Option Point → Type 0
 Came c a rs p T f slots ys st st' (Some t) = Ran c a rs p T f t slots ys st st'
-Came c a rs p T f slots ys st st' None = slots < need told c p rs T
+Came c a rs p T f slots ys st st' None = (slots < need told c p rs T) × Grown st st'
 
 -- and so of whatever program stands there, and of whatever table is shown
 abbrev pub Goes : Cache → Both ℕ → List ℕ → List ℕ → ℕ → Point → ℕ → List ℕ → List ℕ → Store → Store → Option Point → Type 0
@@ -68,7 +68,7 @@ pub record Forked (c : Cache) (a : Both ℕ) (rs ws : List ℕ) (loops slots : �
 
 abbrev pub Forks : Cache → Both ℕ → List ℕ → List ℕ → ℕ → ℕ → P → Table → Point → List ℕ → Store → Store → Option Fork → Type 0
 Forks c a rs ws loops slots p T f ys st st' (Some t) = Forked c a rs ws loops slots p T f t ys st st'
-Forks c a rs ws loops slots p T f ys st st' None = slots < need told c p rs T
+Forks c a rs ws loops slots p T f ys st st' None = (slots < need told c p rs T) × Grown st st'
 
 -- the same, by a pass
 abbrev pub TaskOf : Pass → Point → List ℕ → Store → Type 0

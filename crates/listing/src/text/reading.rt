@@ -176,10 +176,8 @@ impl Listing {
         requires { self.old.mode ≡ Mode.Number value }
         ensures { Makes result self.old self.new (λ _ text. lengthened text value digit) }
     {
-        let longer = value
-            .checked_mul(10)
-            .and_then(|tens| tens.checked_add(u32::from(digit)))
-            .ok_or(Flaw::TooLarge)?;
+        let longer = u64::from(value) * 10 + u64::from(digit);
+        let longer = u32::try_from(longer).map_err(|_| Flaw::TooLarge)?;
         self.mode = Mode::Number(longer);
         Ok(())
     }

@@ -157,7 +157,7 @@ pub run_rounds-returns-in_err-here : goal.run_rounds-returns-in_err-here
 run_rounds-returns-in_err-here t c k =
     let (b, e, f, few, nested) = is_loop k.fit c.args.count c.requires.rounds in
     let u = c.loop-round.invariant.turned k b e in
-    rw c.from_residual.ensures (turned_crowded u c.loop-round-test.true (came_round u _ _ (c.args.from.at + 2) k.rest _ c.run.new.slots c.run.new.store _ None c.inside.ensures.around c.inside.ensures.deeper c.to-in-loop-round.ensures f c.in_err-here.ensures))
+    rw c.from_residual.ensures (turned_crowded u c.run.new.store c.loop-round-test.true (came_round u _ _ (c.args.from.at + 2) k.rest _ c.run.new.slots c.run.new.store _ None c.inside.ensures.around c.inside.ensures.deeper c.to-in-loop-round.ensures f c.in_err-here.ensures))
 
 -- one round is done, of whatever stands there
 round_done : (t : ℕ) (c : goal.run_rounds-In_ok-here t) (k : TaskOf c.args.pass c.args.from c.args.slots.now c.args.store.now) (b : P) (e : k.p ≡ times c.args.count b) → Fit c.args.pass.words.now (c.args.pass.rounds.depth + 1) (c.args.from.at + 2) b k.rest → Came (cache c.args.pass.cache) (firsts_of c.args.pass.firsts) (c.loop-round.round ∷ (around c.args.pass.rounds.at c.args.pass.rounds.depth)) b (c.loop-round.invariant.turned k b e).U (point (c.args.from.at + 2) c.loop-round.here.count) c.args.room c.run.new.slots c.loop-round.store c.run.new.store (Some c.in_ok-here.here)
@@ -221,7 +221,7 @@ pub run_first-returns-in_err-end : goal.run_first-returns-in_err-end
 run_first-returns-in_err-end t c k =
     let n = fits_twice c.if-room-count.false c.gather-count.ensures.few c.requires.ready.count in
     let x = copies k c.args.room c.gather-count.new.slots c.duplicate.new.slots c.gather-count.result c.gather-count.ensures.shows n (omega (arith, c.requires.ready.lent, c.gather-count.auto.slots)) c.duplicate.auto.slots c.duplicate.ensures.front c.duplicate.ensures.back in
-    rw c.from_residual.ensures (crowded_first k c.requires.either _ _ _ c.gather-count.result x.1 (omega (arith, n)) (c.in_err-end.ensures.ran (one k c.requires.either _ _ x.1)))
+    rw c.from_residual.ensures (crowded_first k c.requires.either _ _ _ c.gather-count.result c.run_branch.new.store x.1 (omega (arith, n)) (c.in_err-end.ensures.ran (one k c.requires.either _ _ x.1)))
 
 pub run_first-settle-first-requires : goal.run_first-settle-first-requires
 run_first-settle-first-requires t c =
@@ -257,7 +257,7 @@ run_either-run_branch-requires t c =
 pub run_either-returns-in_err-end : goal.run_either-returns-in_err-end
 run_either-returns-in_err-end t c k =
     let o = c.in_ok-fork.ensures k in
-    rw c.from_residual-in_err-end.ensures (crowded_second o (c.in_err-end.ensures.ran (two o)))
+    rw c.from_residual-in_err-end.ensures (crowded_second o c.run_branch.new.store (c.in_err-end.ensures.ran (two o)))
 
 pub run_either-gather-count-requires : goal.run_either-gather-count-requires
 run_either-gather-count-requires t c =
