@@ -51,9 +51,9 @@ fn write_blanks<W: Write>(out: &mut W, columns: usize) -> io::Result<()> {
     Ok(())
 }
 
-// A line of a fixed text, its newline with it: most lines of a long program are such, and a format would take twice as long.
+// A line of a fixed text, its newline with it: as a format it would take twice as long.
 fn write_line<W: Write>(out: &mut W, indent: usize, line: &str) -> io::Result<()> {
-    // The lines of a long program stand mostly at the margin.
+    // At the margin, where long chains stand, a line is one write.
     if indent > 0 {
         write_blanks(out, indent)?;
     }
